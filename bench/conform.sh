@@ -2,8 +2,8 @@
 # Conformance of models ten times as large, in one run: prints the ratio of the times of `check` on 10,000 and on 100,000 objects,
 # for a chain of containments, a cycle of them, and an object that holds all others by a feature with an opposite; and where the
 # metamodel grows too: objects without slots of a class with many features, one object with a slot of each of many features, such
-# an object whose class asks for all of them, and values of an enumeration with many literals. A ratio near 10 is a time linear in
-# the files.
+# an object whose class asks for all of them, values of an enumeration with many literals, and values of many enumerations. A ratio
+# near 10 is a time linear in the files.
 set -u
 here=$(cd "$(dirname "${BASH_SOURCE[0]}")/.." && pwd)
 work=$(mktemp -d)
@@ -47,6 +47,10 @@ literals() { # 560 values of each of so many
   awk -v n="$1" 'BEGIN { printf "{\"classes\":[{\"features\":[{\"name\":\"es\",\"type\":\"E\",\"unique\":false,\"upper\":\"*\"}],\"name\":\"N\"}],\"enums\":[{\"literals\":["; for (i = 0; i < n; i++) printf "%s\"l%d\"", (i ? "," : ""), i; print "],\"name\":\"E\"}],\"name\":\"V\"}" }' >v.json
   awk -v n="$1" 'BEGIN { printf "{\"objects\":[{\"class\":\"N\",\"id\":\"n\",\"slots\":{\"es\":["; for (i = 0; i < n * 560; i++) printf "%s\"l%d\"", (i ? "," : ""), i % n; print "]}}]}" }' >"literals$1.json"
 }
+enumerations() { # a value of each of so many
+  awk -v n="$1" 'BEGIN { printf "{\"classes\":[{\"features\":["; for (i = 0; i < n; i++) printf "%s{\"name\":\"f%d\",\"type\":\"E%d\"}", (i ? "," : ""), i, i; printf "],\"name\":\"N\"}],\"enums\":["; for (i = 0; i < n; i++) printf "%s{\"literals\":[\"l\"],\"name\":\"E%d\"}", (i ? "," : ""), i; print "],\"name\":\"V\"}" }' >v.json
+  awk -v n="$1" 'BEGIN { printf "{\"objects\":[{\"class\":\"N\",\"id\":\"n\",\"slots\":{"; for (i = 0; i < n; i++) printf "%s\"f%d\":\"l\"", (i ? "," : ""), i; print "}}]}" }' >"enumerations$1.json"
+}
 seconds() { # of a run, in microseconds
   local begin end
   begin=$(date +%s%N)
@@ -69,3 +73,4 @@ tell bare 300 3000
 tell slots 2000 20000
 tell asked 2000 20000
 tell literals 100 1000
+tell enumerations 1200 12000

@@ -57,13 +57,13 @@ awk 'BEGIN{
 tell "a chain of 10,000 classes with a feature each"
 awk 'BEGIN{
   printf "{\"classes\":[{\"name\":\"C0\"}"
-  for (i = 1; i < 6500; i++) {
+  for (i = 1; i < 950; i++) {
     printf ",{\"features\":[{\"name\":\"g%d\",\"type\":\"Integer\"}],\"name\":\"A%d\"}", i, i
     printf ",{\"features\":[{\"name\":\"f%d\",\"type\":\"Integer\"}],\"name\":\"C%d\",\"supers\":[\"A%d\",\"C%d\"]}", i, i, i, i - 1
   }
   printf "],\"name\":\"M\"}"
 }' >m.json
-tell "a chain of 6,500 classes with another superclass each"
+tell "a chain of 950 classes with another superclass each, nearly as many as the room for their lists lets"
 awk 'BEGIN{
   printf "{\"classes\":[{\"features\":["
   for (i = 0; i < 8900; i++) printf "%s{\"name\":\"a%d\",\"opposite\":\"b%d\",\"type\":\"B\",\"upper\":\"*\"}", (i ? "," : ""), i, i
@@ -80,6 +80,20 @@ awk 'BEGIN{
   printf "],\"name\":\"M\"}"
 }' >m.json
 tell "4,000 features above 4,000 classes"
+awk 'BEGIN{
+  printf "{\"classes\":[{\"features\":["
+  for (i = 0; i < 15400; i++) printf "%s{\"name\":\"f%d\",\"type\":\"Integer\"}", (i ? "," : ""), i
+  printf "],\"name\":\"C\"}"
+  for (i = 0; i < 15400; i++) printf ",{\"name\":\"D%d\",\"supers\":[\"C\"]}", i
+  printf "],\"name\":\"M\"}"
+}' >m.json
+tell "15,400 features above 15,400 classes"
+awk 'BEGIN{
+  printf "{\"classes\":[],\"enums\":["
+  for (i = 0; i < 30000; i++) printf "%s{\"literals\":[\"l\"],\"name\":\"E%d\"}", (i ? "," : ""), i
+  printf "],\"name\":\"M\"}"
+}' >m.json
+tell "30,000 enumerations"
 awk 'BEGIN{
   printf "{\"classes\":[],\"enums\":[{\"literals\":["
   for (i = 0; i < 90000; i++) printf "%s\"l%d\"", (i ? "," : ""), i

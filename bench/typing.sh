@@ -97,14 +97,24 @@ properties() { # a class with so many properties, in the order of their numbers 
 }
 remade() { properties X $(($1 / 75)) -1 0; front+='intermediate class K0 { } '; }
 texts "a chain of intermediate classes after one with their names, the last first" "" 'intermediate class K~ extends K# { a# : Integer; } ' ''
+below() { # some classes, with @ for their numbers: as many as the room for properties taken from superclasses lets
+  local at
+  for at in $(seq "$1"); do front+=${2//@/$at}; done
+}
+remade() { properties K 1 1 $(($1 / 35)); below 13 'intermediate class L@ extends K { b@ : Integer; } '; }
+texts "13 intermediate classes below one with many properties, each with one more" "" 'intermediate class Z# { z# : Integer; } ' ''
+remade() { properties K 1 1 $(($1 / 35)); below 13 'intermediate class L@ extends K { b : Integer; } '; }
+texts "13 intermediate classes below one with many properties, each with one more of the same name" "" 'intermediate class Z# { z# : Integer; } ' ''
 remade() { properties K 1 1 $(($1 / 35)); }
-texts "intermediate classes below one with many properties, each with one more" "" 'intermediate class L# extends K { b# : Integer; } ' ''
-texts "intermediate classes below one with many properties, each with one more of the same name" "" 'intermediate class L# extends K { b : Integer; } ' ''
 texts "intermediate classes below one with many properties" "" 'intermediate class L# extends K { } ' ''
 remade() { properties K 1 1 $(($1 / 35)); front+='intermediate class E { } '; }
 texts "intermediate classes below two, of which one has many properties" "" 'intermediate class L# extends K, E { } ' ''
-remade() { properties K 1 1 $(($1 / 35)); front="${main}intermediate class X { b : Integer; } ${front#"$main"}"; }
-texts "intermediate classes below one with many properties, each with one more of a name that stood before" "" 'intermediate class L# extends K { b : Integer; } ' ''
+remade() { properties K 1 1 $(($1 / 35)); below 5 'intermediate class E@ { e@ : Integer; } intermediate class L@ extends E@, K { } '; }
+texts "five intermediate classes below one with a property and one with many" "" 'intermediate class Z# { z# : Integer; } ' ''
+remade() { properties K 1 1 300; below $(($1 / 1500)) 'intermediate class E@ { e@ : Integer; } intermediate class L@ extends E@, K { } '; }
+texts "intermediate classes below one with a property and one with 300" "" 'intermediate class Z# { z# : Integer; } ' ''
+remade() { properties K 1 1 $(($1 / 35)); front="${main}intermediate class X { b : Integer; } ${front#"$main"}"; below 13 'intermediate class L@ extends K { b : Integer; } '; }
+texts "13 intermediate classes below one with many properties, each with one more of a name that stood before" "" 'intermediate class Z# { z# : Integer; } ' ''
 remade() { :; }
 texts "variables of one block" "${begin}main() { var first : Integer := 1; " 'var x# : Integer := first + #; if (x# = null) { first := x#; } ' '}'
 texts "variables of many blocks" "${begin}main() { var first : Integer := 1; " 'while (first < #) { var x := first; first := x + 1; } ' '}'

@@ -1,4 +1,5 @@
 mod ground;
+mod rows;
 mod shown;
 mod units;
 mod written;

@@ -110,6 +110,11 @@ fn features_checked(
     Ok(made(meta, numbers, tables))
 }
 
+/// How many features the lists of the classes of a metamodel may take from superclasses where they do
+/// not go on in the list of one: one for each byte that its file may have. A metamodel with more is
+/// refused as out of memory, since they grow with the classes times what each inherits.
+const MOST_LISTED: usize = 1 << 20;
+
 /// The same after the checks of names and types.
 #[tactic(auto, unfolding(crate::specs::MetaOf::checked))]
 fn classes_checked(alloc: Global, meta: MetaData, names: &NameSet) -> Result<Meta, MetaFault>
@@ -124,7 +129,7 @@ fn classes_checked(alloc: Global, meta: MetaData, names: &NameSet) -> Result<Met
     if let Some(class) = inheritance_cycle(alloc, &meta, numbers.classes.as_slice(), count)? {
         return Err(MetaFault::InheritanceCycle(class));
     }
-    let tables = tables_of(alloc, numbers.classes.as_slice(), count)?;
+    let tables = tables_of(alloc, numbers.classes.as_slice(), count, MOST_LISTED)?;
     features_checked(alloc, meta, names, numbers, tables)
 }
 

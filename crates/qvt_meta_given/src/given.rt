@@ -64,7 +64,7 @@ fn are_sound(alloc: Global, metas: &Metas, classes: &[ClassData]) -> Result<bool
         return Ok(false);
     }
     let features = all_features(alloc, metas, classes)?;
-    let tables = tables_of(alloc, infos.as_slice(), count)?;
+    let tables = tables_of(alloc, infos.as_slice(), count, usize::MAX)?;
     let differ = all_differ(
         alloc,
         features.as_slice(),

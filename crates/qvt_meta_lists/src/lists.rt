@@ -15,12 +15,14 @@ use std::alloc::Global;
 use std::marker::Model;
 
 /// Lists of features by the numbers of their classes. A list that goes on from another takes memory
-/// only for what it has more, if no other list went on from there before.
+/// only for what it has more, if no other list went on from there before. There is room for so many
+/// features in lines of their own: with more, a list is refused as out of memory.
 #[derive(Drop)]
 pub struct FeatureLists {
     lines: Vec<FeatureNoList>,
     begins: Begins,
     fronts: Seq<Front>,
+    room: usize,
 }
 
 /// For each line the front of a line before it that it begins with, where that is known.
@@ -34,6 +36,18 @@ impl Model for FeatureLists {
     ghost view = { λ ls. record { lines = ls.lines.items; fronts = ls.fronts } };
 
     ghost invariant = { λ ls. AreLined ls.lines.items ls.begins ls.fronts };
+}
+
+/// Takes room for so many features, where there is as much.
+fn take_room(room: &mut usize, count: usize) -> Result<(), ListFault>
+    ensures ok { OnOk result (room.new + count ≡ room.old) }
+    ensures err { OnErr result (room.new ≡ room.old) }
+{
+    let Some(rest) = room.checked_sub(count) else {
+        return Err(ListFault::NoMemory);
+    };
+    *room = rest;
+    Ok(())
 }
 
 /// One line without features.
@@ -163,18 +177,28 @@ impl FeatureLists {
             lines: Vec::new(alloc),
             begins: Seq::new(alloc),
             fronts: Seq::new(alloc),
+            room: 0,
         }
     }
 
-    /// As many empty lists.
-    pub fn empty(alloc: Global, count: usize) -> Result<FeatureLists, ListFault>
+    /// As many empty lists, with room for so many features.
+    pub fn empty(alloc: Global, count: usize, room: usize) -> Result<FeatureLists, ListFault>
         ensures { IfOk result (λ ls. all_lists ls ≡ replicate count []) }
     {
         Ok(FeatureLists {
             lines: one_line(alloc)?,
             begins: one_begin(alloc)?,
             fronts: empty_fronts(alloc, count)?,
+            room,
         })
+    }
+
+    /// Takes room for so many features that are looked through, so that this is bounded too. It is
+    /// refused where there is less.
+    pub fn take(&mut self, count: usize) -> Result<(), ListFault>
+        ensures { self.new ≡ self.old }
+    {
+        take_room(&mut self.room, count)
     }
 
     /// The lines, in order.
@@ -230,6 +254,7 @@ impl FeatureLists {
         requires { IfSome begin (λ f. IsLineFront self.old.lines f × HasFront list f (front_of self.old.lines f)) }
         ensures { OnOk result (all_lists self.new ≡ slice_set (all_lists self.old) class list) }
     {
+        take_room(&mut self.room, list.len())?;
         let front = Front {
             line: self.lines.len(),
             count: list.len(),
@@ -315,6 +340,7 @@ impl FeatureLists {
             lines: all,
             begins,
             fronts,
+            room: self.room,
         })
     }
 }
@@ -325,6 +351,7 @@ impl Copied for FeatureLists {
             lines: copies(alloc, self.lines.as_slice())?,
             begins: Seq::from_slice(alloc, self.begins.as_slice())?,
             fronts: Seq::from_slice(alloc, self.fronts.as_slice())?,
+            room: self.room,
         })
     }
 }

@@ -124,16 +124,15 @@ fn first_with(lists: &FeatureLists, classes: &[ClassNo]) -> Option<usize>
     None
 }
 
-/// Whether these classes are known to have only features that this one has too.
-fn has_all(lists: &FeatureLists, superclass: u32, others: &[ClassNo]) -> bool
-    ensures { IsTrue result → each_once (slice_index_or (all_lists lists.now) superclass []) (flat_map (λ s. slice_index_or (all_lists lists.now) s.0 []) others.now) ≡ [] }
+/// How many features of these classes are not known to be features of this one too.
+fn beyond_all(lists: &FeatureLists, superclass: u32, others: &[ClassNo]) -> usize
+    ensures { result ≡ 0 → each_once (slice_index_or (all_lists lists.now) superclass []) (flat_map (λ s. slice_index_or (all_lists lists.now) s.0 []) others.now) ≡ [] }
 {
+    let mut count: usize = 0;
     for class in others {
-        if !beyond(lists, Some(superclass), class.0).is_empty() {
-            return false;
-        }
+        count = count.saturating_add(beyond(lists, Some(superclass), class.0).len());
     }
-    true
+    count
 }
 
 /// Puts the numbers of these features into an empty set.
@@ -148,16 +147,18 @@ fn fill(set: &mut MarkedNumbers, features: &[FeatureNo]) -> Result<(), ListFault
 }
 
 /// Has the features of this class as the first ones.
-fn see(seen: &mut SeenFeatures, lists: &FeatureLists, class: u32) -> Result<(), ListFault>
-    requires { HasJustOf (all_lists lists.now) seen.old.class seen.old.first }
+fn see(seen: &mut SeenFeatures, lists: &mut FeatureLists, class: u32) -> Result<(), ListFault>
+    requires { HasJustOf (all_lists lists.old) seen.old.class seen.old.first }
+    ensures lists { lists.new ≡ lists.old }
     ensures class { OnOk result (seen.new.class ≡ Some class) }
-    ensures first { OnOk result (HasJust seen.new.first (slice_index_or (all_lists lists.now) class [])) }
+    ensures first { OnOk result (HasJust seen.new.first (slice_index_or (all_lists lists.old) class [])) }
 {
     if seen.class == Some(class) {
         return Ok(());
     }
     seen.class = None;
     seen.first.clear();
+    lists.take(lists.at(class as usize).len())?;
     fill(&mut seen.first, lists.at(class as usize))?;
     seen.class = Some(class);
     Ok(())
@@ -178,9 +179,11 @@ fn put_after(
     ensures lists { OnOk result (all_lists lists.new ≡ slice_set (all_lists lists.old) class (slice_index_or (all_lists lists.old) superclass [] ++ each_once (slice_index_or (all_lists lists.old) superclass []) (flat_map (λ s. slice_index_or (all_lists lists.old) s.0 []) others.now) ++ own.now)) }
     ensures seen { OnOk result (HasJustOf (all_lists lists.old) seen.new.class seen.new.first) }
 {
-    if has_all(lists, superclass, others) {
+    let count = beyond_all(lists, superclass, others);
+    if count == 0 {
         return lists.go_on(alloc, class as usize, superclass as usize, own);
     }
+    lists.take(count)?;
     see(seen, lists, superclass)?;
     let mut more = joined(
         alloc,

@@ -93,7 +93,12 @@ fn own_at(classes: &[ClassInfo], class: u32) -> &[FeatureNo]
 }
 
 /// The features of each class.
-fn lists_of(alloc: Global, order: &Order, classes: &[ClassInfo]) -> Result<FeatureLists, ListFault>
+fn lists_of(
+    alloc: Global,
+    order: &Order,
+    classes: &[ClassInfo],
+    room: usize,
+) -> Result<FeatureLists, ListFault>
     requires { IsOrder (of_classes classes.now) order.now.classes order.now.ranks }
     ensures each { IfOk result (λ ls. length (all_lists ls) ≡ length classes.now) }
     ensures features { IfOk result (λ ls. (c : ℕ) → slice_index_or (all_lists ls) c [] ≡ features_of (of_classes classes.now) c) }
@@ -107,7 +112,7 @@ fn lists_of(alloc: Global, order: &Order, classes: &[ClassInfo]) -> Result<Featu
         features: MarkedNumbers::new(alloc),
         once: true,
     };
-    let mut lists = FeatureLists::empty(alloc, classes.len())?;
+    let mut lists = FeatureLists::empty(alloc, classes.len(), room)?;
     for class in order.classes.as_slice() {
         let supers = supers_at(classes, *class);
         let own = own_at(classes, *class);
@@ -125,15 +130,21 @@ fn lists_of(alloc: Global, order: &Order, classes: &[ClassInfo]) -> Result<Featu
     Ok(lists)
 }
 
-/// The tables of these classes, of which none is above itself.
-pub fn tables_of(alloc: Global, classes: &[ClassInfo], count: u32) -> Result<Tables, ListFault>
+/// The tables of these classes, of which none is above itself. They are refused as out of memory where
+/// more features than there is room for would be copied from superclasses or looked through.
+pub fn tables_of(
+    alloc: Global,
+    classes: &[ClassInfo],
+    count: u32,
+    room: usize,
+) -> Result<Tables, ListFault>
     requires live { AreLive classes.now }
     requires acyclic { IsAcyclic classes.now }
     requires count { length classes.now ≡ count }
     ensures { IfOk result (λ t. AreTables (of_classes classes.now) (all_lists t.lists) t.rows.items t.ranks.items) }
 {
     let order = order_of(alloc, classes, count)?;
-    let lists = lists_of(alloc, &order, classes)?;
+    let lists = lists_of(alloc, &order, classes, room)?;
     let rows = rows_of(alloc, &order, classes, count)?;
     Ok(Tables {
         lists,

@@ -264,7 +264,7 @@ impl Metas {
         let given = given_classes(alloc, metamodel, first, classes)?;
         let features = given_features(alloc, element + 1, classes)?;
         let infos = joined(alloc, self.classes.as_slice(), given)?;
-        let tables = tables_of(alloc, infos.as_slice(), infos.len() as u32)?;
+        let tables = tables_of(alloc, infos.as_slice(), infos.len() as u32, usize::MAX)?;
         let next = Metas::whole(
             alloc,
             joined(alloc, self.metamodels.as_slice(), one_unnamed(alloc)?)?,

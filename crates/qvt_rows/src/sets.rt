@@ -1,36 +1,16 @@
 //! Rows as sets of numbers. Each function takes time in the words of its rows, from the first that
 //! is there to the last.
 
-ghost use Rattle.std.specs.Prelude.{◌≡◌, ◌<◌, ◌≤◌, ◌+◌, ◌%◌, ◌^◌, ◌↔◌, ℕ, ◌||◌, ◌&&◌, not, length, IfOk, IsTrue, OnOk};
+ghost use Rattle.std.specs.Prelude.{◌≡◌, ◌<◌, ◌≤◌, ◌+◌, ◌%◌, ◌^◌, ◌↔◌, ℕ, ◌||◌, ◌&&◌, not, length, IfOk, IsTrue, OnErr, OnOk};
 ghost use Rattle.qvt_metamodel.specs.Kept.{no_row, is_bit, is_marked};
 ghost use Rattle.qvt_meta_tables.specs.Tables.{EndsWithin};
 ghost use Rattle.qvt_rows.specs.Sets.{Overlap, IsSubset};
 
 use qvt_base::list_fault::ListFault;
 use qvt_base::seq::Seq;
+use qvt_meta_tables::rows::{end_of, first_word};
 use qvt_metamodel::row::{Row, word_of};
 use std::alloc::Global;
-
-/// Where the words of a row end. Every number in it is below the bound.
-fn end_of(row: &Row, bound: u32) -> u32
-    requires { EndsWithin bound row.now }
-    ensures { result ≡ row.now.skipped + length row.now.words }
-{
-    let _ = bound;
-    row.skipped + row.words.len() as u32
-}
-
-/// This place, or that of the first word of a row if it is less and the row has words.
-fn first_of(place: u32, row: &Row) -> u32
-    ensures place { result ≤ place }
-    ensures first { 0 < length row.now.words → result ≤ row.now.skipped }
-{
-    if row.words.is_empty() {
-        place
-    } else {
-        place.min(row.skipped)
-    }
-}
 
 /// The word where the bit of the number alone is.
 pub fn bit_of(number: u32) -> u64
@@ -65,7 +45,7 @@ pub fn united(alloc: Global, bound: u32, one: &Row, other: &Row) -> Result<Row, 
     ensures within { IfOk result (λ r. EndsWithin bound r) }
 {
     let end = end_of(one, bound).max(end_of(other, bound));
-    let first = first_of(first_of(end, one), other);
+    let first = first_word(first_word(end, one), other);
     let mut words = Seq::new(alloc);
     for place in first..end {
         words.push(word_of(one, place) | word_of(other, place))?;
@@ -77,12 +57,13 @@ pub fn united(alloc: Global, bound: u32, one: &Row, other: &Row) -> Result<Row, 
     })
 }
 
-/// Puts words without marks behind those of a set, so that it ends at this place or later.
+/// Puts words without marks behind those of a set, so that it ends at this place or later. The set
+/// stays the same, also where there is no memory for all of them.
 fn lengthen(row: &mut Row, bound: u32, end: u32) -> Result<(), ListFault>
     requires row { EndsWithin bound row.old }
     requires end { end ≤ bound }
-    ensures marks { OnOk result ((d : ℕ) → is_marked row.new d ≡ is_marked row.old d) }
-    ensures within { OnOk result (EndsWithin bound row.new) }
+    ensures marks { (d : ℕ) → is_marked row.new d ≡ is_marked row.old d }
+    ensures within { EndsWithin bound row.new }
     ensures first { OnOk result (row.new.skipped ≡ row.old.skipped) }
     ensures end { OnOk result (end ≤ row.new.skipped + length row.new.words) }
 {
@@ -109,12 +90,14 @@ fn put_words(row: &mut Row, bound: u32, other: &Row)
 }
 
 /// Puts the numbers of another set into a set, in time in the words of the other alone where the
-/// set has words from the first of the other to its last.
+/// set has words from the first of the other to its last. For want of memory the set has the numbers
+/// that it had.
 pub fn unite(alloc: Global, bound: u32, row: &mut Row, other: &Row) -> Result<(), ListFault>
     requires row { EndsWithin bound row.old }
     requires other { EndsWithin bound other.now }
     ensures marks { OnOk result ((d : ℕ) → is_marked row.new d ≡ (is_marked row.old d || is_marked other.now d)) }
-    ensures within { OnOk result (EndsWithin bound row.new) }
+    ensures within { EndsWithin bound row.new }
+    ensures err { OnErr result ((d : ℕ) → is_marked row.new d ≡ is_marked row.old d) }
 {
     if row.words.is_empty() || other.skipped < row.skipped {
         *row = united(alloc, bound, row, other)?;

@@ -11,7 +11,7 @@ ghost use Rattle.qvt_types_classes.specs.Classes as words;
 
 use crate::cycles::{cycle_flags, tell_cycles, uncycled_all};
 use crate::declared::{Declared, Property, all_declared};
-use crate::numbered::{all_properties, are_ranked, numbered, property_lists};
+use crate::numbered::{all_properties, numbered, property_lists};
 use crate::reading::{are_apart, read_all};
 use crate::telling::tell_classes;
 use qvt_base::copied::Copied;
@@ -28,7 +28,7 @@ use qvt_types_paths::told::RefusalList;
 use std::alloc::Global;
 
 /// Classes, none of which is above itself, as they are read; and what is told of their properties of one name. Where there are no such
-/// properties the classes are read as they are, and none is asked what it inherits.
+/// properties the classes are read as they are. What they inherit is listed first, so that its room is asked for in each case.
 #[tactic(auto, unfolding(crate::specs::Classes::read_classes, crate::specs::Classes::all_same_told))]
 fn read_classes(
     alloc: Global,
@@ -43,12 +43,11 @@ fn read_classes(
 {
     let infos = numbered(alloc, classes.as_slice())?;
     let properties = all_properties(alloc, classes.as_slice())?;
+    let lists = property_lists(alloc, infos.as_slice())?;
     let apart = are_apart(alloc, properties.as_slice())?;
     if apart {
-        are_ranked(alloc, infos.as_slice())?;
         return Ok(classes);
     }
-    let lists = property_lists(alloc, infos.as_slice())?;
     let read = read_all(
         alloc,
         properties.as_slice(),

@@ -17,7 +17,6 @@ use qvt_cycle::lists::Positions;
 use qvt_meta_lists::lists::FeatureLists;
 use qvt_metas::info::ClassInfo;
 use qvt_metas::numbering::numbers_from;
-use qvt_metas::order::order_of;
 use qvt_metas::tables::tables_of;
 use std::alloc::Global;
 
@@ -99,8 +98,13 @@ pub fn all_properties(alloc: Global, classes: &[Declared]) -> Result<Seq<Propert
     Ok(all)
 }
 
+/// How many properties the lists of the classes of a text may take from superclasses where they do not go on in the list of one: one
+/// for two bytes that the text may have. A text with more is refused as out of memory, since they grow with the classes times what
+/// each inherits, and nothing of such a text is run.
+const MOST_LISTED: usize = 1 << 17;
+
 /// The numbers of the properties of each class, those that it inherits before its own. It is refused as out of memory where the
-/// numbers of the classes do not fit 32 bits.
+/// numbers of the classes do not fit 32 bits, or more properties are taken than there is room for.
 pub fn property_lists(alloc: Global, classes: &[ClassInfo]) -> Result<FeatureLists, ListFault>
     requires live { AreLive classes.now }
     requires acyclic { IsAcyclic classes.now }
@@ -110,21 +114,8 @@ pub fn property_lists(alloc: Global, classes: &[ClassInfo]) -> Result<FeatureLis
     let Ok(count) = u32::try_from(classes.len()) else {
         return Err(ListFault::NoMemory);
     };
-    let tables = tables_of(alloc, classes, count)?;
+    let tables = tables_of(alloc, classes, count, MOST_LISTED)?;
     Ok(tables.lists)
-}
-
-/// The classes have ranks above those of their superclasses. It is refused as out of memory where their numbers do not fit 32 bits.
-pub fn are_ranked(alloc: Global, classes: &[ClassInfo]) -> Result<(), ListFault>
-    requires live { AreLive classes.now }
-    requires acyclic { IsAcyclic classes.now }
-    ensures { OnOk result (HaveRanks classes.now) }
-{
-    let Ok(count) = u32::try_from(classes.len()) else {
-        return Err(ListFault::NoMemory);
-    };
-    order_of(alloc, classes, count)?;
-    Ok(())
 }
 
 /// What stands past the end.

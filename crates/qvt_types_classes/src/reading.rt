@@ -118,7 +118,7 @@ fn unflagged(
 
 /// How many properties all classes together may get as their own because two that they inherit have one name. A text with more is
 /// refused as out of memory: the copies grow with the classes times what each inherits, and nothing of such a text is run.
-const MOST_COPIES: usize = 1 << 20;
+const MOST_COPIES: usize = 1 << 17;
 
 /// Takes so many copies, where so many are left.
 fn take_copies(left: &mut usize, count: usize) -> Result<(), ListFault>

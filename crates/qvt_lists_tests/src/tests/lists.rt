@@ -27,9 +27,9 @@ fn shown(alloc: Global, lists: &FeatureLists, count: usize) -> Result<Text, Fail
     Ok(text)
 }
 
-/// Three lists: one of its own, and two that go on from it.
-fn three(alloc: Global) -> Result<FeatureLists, ListFault> {
-    let mut lists = FeatureLists::empty(alloc, 3)?;
+/// Three lists, in this room: one of its own, and two that go on from it.
+fn three(alloc: Global, room: usize) -> Result<FeatureLists, ListFault> {
+    let mut lists = FeatureLists::empty(alloc, 3, room)?;
     let first = Seq::from_slice(alloc, &[FeatureNo(4), FeatureNo(7)])?;
     lists.put(0, first)?;
     lists.go_on(alloc, 1, 0, &[FeatureNo(9)])?;
@@ -61,10 +61,10 @@ fn begins_with(lists: &FeatureLists, class: usize, count: usize) -> bool {
 fn lists_go_on_from_one_another(rt: HostRuntime) -> Result<(), Fail> {
     let alloc = rt.alloc();
     assert_eq!(rt;
-        shown(alloc, &FeatureLists::empty(alloc, 2)?, 3)?.as_str(),
+        shown(alloc, &FeatureLists::empty(alloc, 2, 0)?, 3)?.as_str(),
         "|||"
     );
-    let lists = three(alloc)?;
+    let lists = three(alloc, 6)?;
     assert_eq!(rt; shown(alloc, &lists, 4)?.as_str(), "| 4 7| 4 7 9| 4 7 8 3|");
     assert!(rt; begins_with(&lists, 2, 2));
     assert!(rt; !begins_with(&lists, 1, 2));
@@ -75,12 +75,23 @@ fn lists_go_on_from_one_another(rt: HostRuntime) -> Result<(), Fail> {
     Ok(())
 }
 
+/// Where there is less room than lists take that do not go on in a line, they are refused.
+#[test]
+fn lists_want_room(rt: HostRuntime) -> Result<(), Fail> {
+    let alloc = rt.alloc();
+    assert!(rt; three(alloc, 5).is_err());
+    let mut lists = three(alloc, 8)?;
+    assert!(rt; lists.take(2).is_ok());
+    assert!(rt; lists.take(1).is_err());
+    Ok(())
+}
+
 /// Lists come after others, with their own lines.
 #[test]
 fn lists_come_after_others(rt: HostRuntime) -> Result<(), Fail> {
     let alloc = rt.alloc();
-    let first = three(alloc)?;
-    let mut others = FeatureLists::empty(alloc, 2)?;
+    let first = three(alloc, 6)?;
+    let mut others = FeatureLists::empty(alloc, 2, 1)?;
     others.put(1, Seq::from_slice(alloc, &[FeatureNo(5)])?)?;
     let lines = same_lines(alloc, &others)?;
     let all = first.joined(alloc, &others, lines)?;
