@@ -41,24 +41,25 @@ tell() { # what the text is, and what the typing of a tenth of it took, or 0
 # a text of so many bytes at most: what stands before, a piece again and again, what stands after; in a piece # is its number, ~ the
 # number after that, and % the number of the next piece, which for the last is the first
 texts() { # name, front (where it is empty, the one that is made for a text of so many bytes), piece, end
-  local size
+  local size begin
   tenth=0
   for size in $((most / 10)) "$most"; do
     remade "$size"
-    awk -v most="$size" -v front="${2:-$front}" -v piece="$3" -v end="$4" 'BEGIN{
-      room = most - length(front) - length(end)
+    begin=${2:-$front}
+    printf '%s' "$begin" >t.qvto
+    awk -v most="$size" -v front="${#begin}" -v piece="$3" -v end="$4" 'BEGIN{
+      room = most - front - length(end)
       while (1) {
         long = piece; gsub(/[#%~]/, 1000 * 10, long)
         if (used + length(long) > room && count > 0) break
         used += length(long); count++
       }
-      printf "%s", front
       for (i = 0; i < count; i++) {
         one = piece; gsub(/#/, i, one); gsub(/~/, i + 1, one); gsub(/%/, (i + 1) % count, one)
         printf "%s", one
       }
       printf "%s", end
-    }' >t.qvto
+    }' >>t.qvto
     tell "$1" "$tenth"
   done
 }
@@ -144,7 +145,38 @@ texts "queries of one name with parameters, of a chain" "$main" 'query C#::q(a :
 texts "two queries of each of many names" "$main" 'query Book::q#() : Integer = #; query C0::q#() : Integer = #; ' ''
 texts "two queries of each of many names, of which one overrides the other" "$main" 'query Named::q#() : Integer = #; query C0::q#() : Integer = #; ' ''
 texts "a hundred queries of each of many names" "$main" "$(for i in $(seq 0 99); do printf 'query D%d::q#() : Integer = #; ' "$i"; done)" ''
+for count in 17 126 127; do
+  texts "$count queries of each of many names" "$main" "$(for i in $(seq 0 $((count - 1))); do printf 'query D%d::q#() : Integer = #; ' "$i"; done)" ''
+done
+calls() { # so many queries of each of some names, on about half of a text of so many bytes, for calls of one of them on the other half
+  local name at
+  front=$begin
+  for name in $(seq $(($2 / 2 / 32 / $1 + 1))); do
+    for at in $(seq 0 $(($1 - 1))); do front+="query D$at::q$name() : Integer = 1; "; done
+  done
+  front+="main() { var x : D$(($1 - 1)) := null; "
+}
+for count in 126 127; do
+  remade() { calls "$count" "$1"; }
+  texts "$count queries of each of some names, and calls of one" "" 'x.q1(); ' '} '
+done
+remade() { :; }
 texts "constructors" "$main" 'constructor D#::D#(p : Integer) { pages := p; } ' ''
+# 16,003 classes, of which so many D have nothing above them; each other one is below one of these in turn, and so many last ones below two
+spread() {
+  awk -v tops="$1" -v joins="$2" 'BEGIN{
+    printf "{\"classes\":[{\"name\":\"D0\"}"
+    for (i = 1; i < tops; i++) printf ",{\"name\":\"D%d\"}", i
+    for (i = 0; i < 16003 - tops - joins; i++) printf ",{\"name\":\"X%d\",\"supers\":[\"D%d\"]}", i, i % tops
+    for (i = 0; i < joins; i++) printf ",{\"name\":\"J%d\",\"supers\":[\"D%d\",\"D%d\"]}", i, i % tops, (i + 1) % tops
+    printf "],\"enums\":[],\"name\":\"M\"}"
+  }' >m.json
+}
+for family in "16 0" "16 1" "16 8000" "17 0" "17 8000" "126 8000"; do
+  read -r count joins <<<"$family"
+  spread "$count" "$joins"
+  texts "$count queries of each of many names, of $count classes; the others are below one of these, $joins of them below two" "$main" "$(for i in $(seq 0 $((count - 1))); do printf 'query D%d::q#() : Integer = #; ' "$i"; done)" ''
+done
 # queries of one name, each of a class that is below several with a query of that name, and has a class below it
 fronts() { # what stands before them: the queries of so many classes
   front=$main

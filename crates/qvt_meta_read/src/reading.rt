@@ -55,7 +55,7 @@ fn text_of_key(alloc: Global, value: &Value, key: &str) -> Result<Option<Text>, 
 }
 
 #[tactic(auto, unfolding(crate::specs::DataOf::feature_data))]
-fn feature_of(alloc: Global, value: &Value) -> Result<DeclaredFeature, ListFault>
+fn read_feature(alloc: Global, value: &Value) -> Result<DeclaredFeature, ListFault>
     ensures { IfOk result (λ f. f ≡ feature_data (view value.now)) }
 {
     Ok(DeclaredFeature {
@@ -98,12 +98,12 @@ fn texts_at(alloc: Global, value: &Value, key: &str) -> Result<NameList, ListFau
     }
 }
 
-fn features_of(alloc: Global, items: &Vec<Value>) -> Result<Seq<DeclaredFeature>, ListFault>
+fn read_features(alloc: Global, items: &Vec<Value>) -> Result<Seq<DeclaredFeature>, ListFault>
     ensures { IfOk result (λ fs. fs ≡ map_items feature_data (items_view items.now.items)) }
 {
     let mut features = Seq::new(alloc);
     for item in items {
-        features.push(feature_of(alloc, item)?)?;
+        features.push(read_feature(alloc, item)?)?;
     }
     Ok(features)
 }
@@ -112,13 +112,13 @@ fn features_at(alloc: Global, value: &Value) -> Result<Seq<DeclaredFeature>, Lis
     ensures { IfOk result (λ fs. fs ≡ map_items feature_data (items_or (codes "features") (view value.now))) }
 {
     match items_at(value, "features") {
-        Some(items) => Ok(features_of(alloc, items)?),
+        Some(items) => Ok(read_features(alloc, items)?),
         None => Ok(Seq::new(alloc)),
     }
 }
 
 #[tactic(auto, unfolding(crate::specs::DataOf::class_data))]
-fn class_of(alloc: Global, value: &Value) -> Result<DeclaredClass, ListFault>
+fn read_class(alloc: Global, value: &Value) -> Result<DeclaredClass, ListFault>
     ensures { IfOk result (λ c. c ≡ class_data (view value.now)) }
 {
     Ok(DeclaredClass {
@@ -129,12 +129,12 @@ fn class_of(alloc: Global, value: &Value) -> Result<DeclaredClass, ListFault>
     })
 }
 
-fn classes_of(alloc: Global, items: &Vec<Value>) -> Result<Seq<DeclaredClass>, ListFault>
+fn read_classes(alloc: Global, items: &Vec<Value>) -> Result<Seq<DeclaredClass>, ListFault>
     ensures { IfOk result (λ cs. cs ≡ map_items class_data (items_view items.now.items)) }
 {
     let mut classes = Seq::new(alloc);
     for item in items {
-        classes.push(class_of(alloc, item)?)?;
+        classes.push(read_class(alloc, item)?)?;
     }
     Ok(classes)
 }
@@ -144,13 +144,13 @@ fn classes_at(alloc: Global, value: &Value) -> Result<Seq<DeclaredClass>, ListFa
     ensures { IfOk result (λ cs. cs ≡ map_items class_data (items_or (codes "classes") (view value.now))) }
 {
     match items_at(value, "classes") {
-        Some(items) => Ok(classes_of(alloc, items)?),
+        Some(items) => Ok(read_classes(alloc, items)?),
         None => Ok(Seq::new(alloc)),
     }
 }
 
 #[tactic(auto, unfolding(crate::specs::DataOf::enum_data))]
-fn enum_of(alloc: Global, value: &Value) -> Result<EnumInfo, ListFault>
+fn read_enumeration(alloc: Global, value: &Value) -> Result<EnumInfo, ListFault>
     ensures { IfOk result (λ e. e ≡ enum_data (view value.now)) }
 {
     Ok(EnumInfo {
@@ -159,12 +159,12 @@ fn enum_of(alloc: Global, value: &Value) -> Result<EnumInfo, ListFault>
     })
 }
 
-fn enums_of(alloc: Global, items: &Vec<Value>) -> Result<Seq<EnumInfo>, ListFault>
+fn read_enumerations(alloc: Global, items: &Vec<Value>) -> Result<Seq<EnumInfo>, ListFault>
     ensures { IfOk result (λ es. es ≡ map_items enum_data (items_view items.now.items)) }
 {
     let mut enums = Seq::new(alloc);
     for item in items {
-        enums.push(enum_of(alloc, item)?)?;
+        enums.push(read_enumeration(alloc, item)?)?;
     }
     Ok(enums)
 }
@@ -174,7 +174,7 @@ fn enums_at(alloc: Global, value: &Value) -> Result<Seq<EnumInfo>, ListFault>
     ensures { IfOk result (λ es. es ≡ map_items enum_data (items_or (codes "enums") (view value.now))) }
 {
     match items_at(value, "enums") {
-        Some(items) => Ok(enums_of(alloc, items)?),
+        Some(items) => Ok(read_enumerations(alloc, items)?),
         None => Ok(Seq::new(alloc)),
     }
 }

@@ -1,6 +1,6 @@
 //! Which classes are above each class.
 
-ghost use Rattle.std.specs.Prelude.{replicate, nat_lt, IsTrue, ◌≡◌, ◌<◌, ◌≤◌, ◌+◌, ◌^◌, ℕ, ◌||◌, ◌==◌, length, IfOk, slice_index_or};
+ghost use Rattle.std.specs.Prelude.{replicate, nat_lt, IsTrue, ◌≡◌, ◌<◌, ◌≤◌, ◌+◌, ◌^◌, ℕ, ◌||◌, ◌==◌, length, min, IfOk, slice_index_or};
 ghost use Rattle.std.specs.List.{list_any, list_all};
 ghost use Rattle.qvt_metamodel.specs.Descends.{reaches};
 ghost use Rattle.qvt_metamodel.specs.Kept.{no_row, is_marked};
@@ -27,7 +27,8 @@ pub fn end_of(row: &Row, bound: u32) -> u32
 /// The number of the first word of a row, or this number if it is less or the row has no words.
 pub fn first_word(number: u32, row: &Row) -> u32
     ensures number { result ≤ number }
-    ensures first { 0 < length row.now.words → result ≤ row.now.skipped }
+    ensures none { length row.now.words ≡ 0 → result ≡ number }
+    ensures first { 0 < length row.now.words → result ≡ min number row.now.skipped }
 {
     if row.words.is_empty() {
         number

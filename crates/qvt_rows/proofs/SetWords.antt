@@ -36,7 +36,7 @@ left_of zero (suc (suc y)) l k = absurd (omega arith)
 left_of (suc zero) (suc (suc y)) l k = absurd (omega arith)
 left_of (suc (suc x)) y l k = absurd (omega arith)
 
-bit_of_union : (v w k : ℕ) → is_bit (bit_or v w) k ≡ (is_bit v k || is_bit w k)
+pub bit_of_union : (v w k : ℕ) → is_bit (bit_or v w) k ≡ (is_bit v k || is_bit w k)
 bit_of_union v w k = ap (λ x. x == 1) (bit_at_or v w k) ∙ most_of (bit_at v k) (bit_at w k) (bit_at-lt v k) (bit_at-lt w k)
 
 pub bit_of_rest : (v w k : ℕ) → w < 2 ^ 64 → k < 64 → is_bit (bit_and v (bit_not w64 w)) k ≡ (is_bit v k && not (is_bit w k))
@@ -45,7 +45,7 @@ bit_of_rest v w k fits l =
     ∙ left_of (bit_at v k) (bit_at w k) (bit_at-lt v k) (bit_at-lt w k)
 
 -- a mark is a bit of a word
-marked : (r : Row) → r.start ≡ 0 → (d : ℕ) → is_marked r d ≡ is_bit (word_of r (d / 64)) (d % 64)
+pub marked : (r : Row) → r.start ≡ 0 → (d : ℕ) → is_marked r d ≡ is_bit (word_of r (d / 64)) (d % 64)
 marked r e d =
     ap (λ s. leb s d && is_bit (word_of r ((d - s) / 64)) ((d - s) % 64)) e
     ∙ ap2 (λ b k. b && is_bit (word_of r (k / 64)) (k % 64)) (le-leb 0 d (omega arith)) (let same : d - 0 ≡ d = omega arith in same)
@@ -58,17 +58,21 @@ marked_at r e n k l =
 unmarked : (r : Row) → r.start ≡ 0 → (d : ℕ) → word_of r (d / 64) ≡ 0 → is_marked r d ≡ false
 unmarked r e d h = marked r e d ∙ ap (λ w. is_bit w (d % 64)) h ∙ no_bit (d % 64)
 
--- a row has no marks before its first word, and none behind its last
+-- a row has no words before its first, and none behind its last
+pub no_word_before : (r : Row) (n : ℕ) → n < r.skipped → word_of r n ≡ 0
+no_word_before r n l = ap (λ b. if b then get_or r.words (n - r.skipped) 0 else 0) (lt-leb r.skipped n l)
+
+pub no_word_behind : (r : Row) (n : ℕ) → r.skipped + length r.words ≤ n → word_of r n ≡ 0
+no_word_behind r n l = ap (λ b. if b then get_or r.words (n - r.skipped) 0 else 0) (le-leb r.skipped n (omega (arith, l))) ∙ get_or_past r.words (n - r.skipped) 0 (omega (arith, l))
+
+-- nor marks
 no_mark_before : (r : Row) → r.start ≡ 0 → (d : ℕ) → d / 64 < r.skipped → is_marked r d ≡ false
-no_mark_before r e d l = unmarked r e d (ap (λ b. if b then get_or r.words (d / 64 - r.skipped) 0 else 0) (lt-leb r.skipped (d / 64) l))
+no_mark_before r e d l = unmarked r e d (no_word_before r (d / 64) l)
 
-no_mark_behind : (r : Row) → r.start ≡ 0 → (d : ℕ) → r.skipped + length r.words ≤ d / 64 → is_marked r d ≡ false
-no_mark_behind r e d l =
-    unmarked r e d
-    (ap (λ b. if b then get_or r.words (d / 64 - r.skipped) 0 else 0) (le-leb r.skipped (d / 64) (omega (arith, l)))
-    ∙ get_or_past r.words (d / 64 - r.skipped) 0 (omega (arith, l)))
+pub no_mark_behind : (r : Row) → r.start ≡ 0 → (d : ℕ) → r.skipped + length r.words ≤ d / 64 → is_marked r d ≡ false
+no_mark_behind r e d l = unmarked r e d (no_word_behind r (d / 64) l)
 
-no_mark_in_front : (r : Row) → r.start ≡ 0 → (first d : ℕ) → (0 < length r.words → first ≤ r.skipped) → d / 64 < first → is_marked r d ≡ false
+pub no_mark_in_front : (r : Row) → r.start ≡ 0 → (first d : ℕ) → (0 < length r.words → first ≤ r.skipped) → d / 64 < first → is_marked r d ≡ false
 no_mark_in_front r e first d front l = elim (cases_lt 0 (length r.words)) [
   | inl some ↦ (let low : first ≤ r.skipped = front some in no_mark_before r e d (omega (arith, low, l)))
   | inr none ↦ elim (cases_lt (d / 64) r.skipped) [
@@ -167,7 +171,7 @@ united_none one other start = record {
   start = start;
   first = refl;
   each = refl;
-  done = λ n l. sym (ap (bit_or (word_of one n)) (ap (λ b. if b then get_or other.words (n - other.skipped) 0 else 0) (lt-leb other.skipped n l)) ∙ or_comm (word_of one n) 0);
+  done = λ n l. sym (ap (bit_or (word_of one n)) (no_word_before other n l) ∙ or_comm (word_of one n) 0);
   rest = λ n l. refl;
 }
 
@@ -192,13 +196,10 @@ united_all one other row p start also end had d =
     marked row had.start d
     ∙ ap (λ w. is_bit w (d % 64)) (elim (cases_lt (d / 64) p) [
       | inl l ↦ had.done (d / 64) l
-      | inr l ↦ had.rest (d / 64) l ∙ sym (ap (bit_or (word_of one (d / 64))) (no_word_behind (d / 64) (omega (arith, l, end))) ∙ or_comm (word_of one (d / 64)) 0)
+      | inr l ↦ had.rest (d / 64) l ∙ sym (ap (bit_or (word_of one (d / 64))) (no_word_behind other (d / 64) (omega (arith, l, end))) ∙ or_comm (word_of one (d / 64)) 0)
     ])
     ∙ bit_of_union (word_of one (d / 64)) (word_of other (d / 64)) (d % 64)
     ∙ sym (ap2 (λ a b. a || b) (marked one start d) (marked other also d))
-  where
-    no_word_behind : (n : ℕ) → other.skipped + length other.words ≤ n → word_of other n ≡ 0
-    no_word_behind n l = ap (λ b. if b then get_or other.words (n - other.skipped) 0 else 0) (le-leb other.skipped n (omega (arith, l))) ∙ get_or_past other.words (n - other.skipped) 0 (omega (arith, l))
 
 pub rest : (one other : Row) (words : List ℕ) → one.start ≡ 0 → other.start ≡ 0 → length one.words ≤ length words
     → ((i : ℕ) → i < length words → (k : ℕ) → k < 64 → is_bit (get_or words i 0) k ≡ (is_bit (word_of one (one.skipped + i)) k && not (is_bit (word_of other (one.skipped + i)) k)))

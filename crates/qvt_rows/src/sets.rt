@@ -20,7 +20,7 @@ pub fn bit_of(number: u32) -> u64
 }
 
 /// The marks of a word that the other does not have.
-fn word_without(one: u64, other: u64) -> u64
+pub fn word_without(one: u64, other: u64) -> u64
     ensures { (k : ℕ) → k < 64 → is_bit result k ≡ (is_bit one k && not (is_bit other k)) }
 {
     one & !other

@@ -1,10 +1,9 @@
 -- The choices that are told once for all classes.
-use Rattle.std.proofs.Common.{◌≡◌, ◌∙◌, ℕ, ◌<◌, List, [], ◌∷◌, length, map, get_or, Bool, true, false, ◌&&◌, ◌||◌, not, Option, Some, None, refl, sym, ap, subst, arith}
-use Rattle.std.specs.Prelude.{if◌then◌else◌, filter, is_some, slice_get, IsTrue, IfSome}
+use Rattle.std.proofs.Common.{◌≡◌, ◌∙◌, ℕ, ◌<◌, List, [], ◌∷◌, length, Bool, true, false, ◌&&◌, ◌||◌, not, Option, Some, None, refl, sym, ap, arith}
+use Rattle.std.specs.Prelude.{if◌then◌else◌, filter, is_some, IsTrue}
 use Rattle.std.specs.List.{list_any, range_with_len}
 use Rattle.std.proofs.lemmas.Bool.{eq-eqb, lt-ltb}
-use Rattle.std.proofs.lemmas.Option.{slice_get_within, get_or_from_slice_get}
-use Rattle.std.proofs.lemmas.List.FromFn.{get_or-map-range_with_len, length-map-range_with_len}
+use Rattle.std.proofs.lemmas.List.FromFn.{get_or-map-range_with_len}
 use Rattle.qvt_metas.specs.Metamodels.{Metamodels, class_at, is_element}
 use Rattle.qvt_metas.specs.Descends.{descends, reaches}
 use Rattle.qvt_metamodel.specs.Kept.{is_marked}
@@ -18,9 +17,6 @@ use Rattle.qvt_types_units.specs.declared.signature.Signature.{Signature}
 use Rattle.qvt_types_units.specs.Choice.{is_context_above, is_below, context_at, candidates, lowest, single, chosen, is_concrete_below, lacks_choice, is_ambiguous, is_unknown, is_unsure, is_empty, chosen_of, looked_up}
 use Rattle.qvt_types_choices.specs.Stuck.{is_stuck, all_stuck, lacks_one, found_alone}
 use Rattle.qvt_types_choices.specs.Sets.{IsSetOf}
-use Rattle.qvt_types_choices.specs.Tables.{TellsOf}
-use Rattle.qvt_types_choices.specs.declared.tables.GroupTable.{GroupTable}
-use Rattle.qvt_types_choices.specs.declared.tables.GroupTable.TheVariants.{Each}
 use Rattle.qvt_types_choices.specs.ByClass.{choice_among, choice_for, choices, choice_at, is_unclear, is_stuck_by, settled, some_below}
 use Rattle.qvt_types_choices.proofs.Sets.{any_same, in_range_below}
 
@@ -195,20 +191,3 @@ module _ (m : Metamodels) (us : List Signature) (t : Transitive m) where
 
   pub alone_is : (n c : ℕ) → found_alone m n (context_at us n) c ≡ looked_up m us (n ∷ []) c
   alone_is n c = sym (alone_by n c (context_at us n) refl)
-
--- what stands in the row of all classes
-pub told_each : (m : Metamodels) (us : List Signature) (ns : List ℕ) (t : GroupTable) (fs : List FoundUnit) (c : ℕ) (o : Option FoundUnit) → TellsOf m us ns t → t ≡ Each fs → o ≡ slice_get fs c
-    → IfSome o (λ f. f ≡ looked_up m us ns c)
-told_each m us ns t fs c o tells is at = by o at
-  where
-    are : fs ≡ map (looked_up m us ns) (range_with_len 0 (length m.classes))
-    are = subst (TellsOf m us ns) is tells
-
-    low : c < length fs → c < length m.classes
-    low l = subst (λ k. c < k) (ap length are ∙ length-map-range_with_len (looked_up m us ns) 0 (length m.classes)) l
-
-    by : (o : Option FoundUnit) → o ≡ slice_get fs c → IfSome o (λ f. f ≡ looked_up m us ns c)
-    by None e = tt
-    by (Some f) e = sym (get_or_from_slice_get fs c f NoUnit (sym e))
-        ∙ ap (λ xs. get_or xs c NoUnit) are
-        ∙ get_or-map-range_with_len (looked_up m us ns) 0 (length m.classes) c c NoUnit (low (slice_get_within fs c f (sym e))) (omega arith)

@@ -9,3 +9,5 @@ pub mod Marked
 pub mod Below
 pub mod Chosen
 pub mod Contested
+pub mod HowMany
+pub mod CountedSets

@@ -1,5 +1,5 @@
 -- Sets of numbers that are made in place.
-use Rattle.std.proofs.Common.{◌≡◌, ◌∙◌, ℕ, zero, suc, ◌+◌, ◌-◌, ◌/◌, ◌%◌, ◌*◌, ◌^◌, ◌<◌, ◌≤◌, min, ◌==◌, leb, ◌≢◌, List, [], length, get_or, set, replicate, Bool, true, false, ◌&&◌, ◌||◌, inl, inr, ◌⊎◌, refl, sym, ap, subst, arith}
+use Rattle.std.proofs.Common.{◌≡◌, ◌∙◌, ℕ, zero, suc, ◌-◌, ◌/◌, ◌%◌, ◌*◌, ◌^◌, ◌<◌, ◌≤◌, ◌==◌, leb, ◌≢◌, List, [], length, get_or, set, replicate, Bool, true, false, ◌&&◌, ◌||◌, inl, inr, ◌⊎◌, refl, sym, ap, subst, arith}
 use Rattle.std.specs.Prelude.{nat_lt, if◌then◌else◌}
 use Rattle.std.specs.Int.RustNames.{bit_or}
 use Rattle.std.specs.Int.Bits.{or_zero_r}
@@ -15,10 +15,8 @@ use Rattle.qvt_metamodel.proofs.Bools.{and_no, not_true}
 use Rattle.qvt_metamodel.proofs.Rows.{no_bit, no_mark}
 use Rattle.qvt_metas.specs.Tables.{mark_of}
 use Rattle.qvt_meta_tables.proofs.Words.{joined_word, joined_marks}
-use Rattle.qvt_types_choices.specs.Sets.{IsSetOf, bits}
-
-abbrev pub word_count : ℕ → ℕ
-word_count n = min n (n / 64 + 1)
+use Rattle.qvt_types_choices.specs.Sets.{IsSetOf, word_count}
+use Rattle.qvt_counts.specs.Counts.{bits}
 
 pub word_few : (n : ℕ) → word_count n ≤ n
 word_few n = omega arith
@@ -87,14 +85,6 @@ marked_more ws c there d =
         ∙ ap (λ w. bit_or w (mark_of c n)) (sym (word_is ws n))
         ∙ sym (or_zero_r (bit_or (word_of (bits ws) n) (mark_of c n)))
         ∙ ap (bit_or (bit_or (word_of (bits ws) n) (mark_of c n))) (sym (no_word n))
-
--- the set that is made when all numbers are looked at
-pub made_set : (m : Metamodels) (p : ℕ → Bool) (ws : List ℕ) (k : ℕ) → length ws ≡ word_count (length m.classes) → k ≡ length m.classes
-    → ((d : ℕ) → is_marked (bits ws) d ≡ (nat_lt d k && p d)) → IsSetOf m p (bits ws)
-made_set m p ws k long all marks = record {
-  within = record { start = refl; words = omega (arith, long) };
-  marks = λ d. marks d ∙ ap (λ n. nat_lt d n && p d) all;
-}
 
 pub empty_set : (m : Metamodels) (r : Row) → r ≡ no_row → IsSetOf m (λ d. false) r
 empty_set m r is = subst (IsSetOf m (λ d. false)) (sym is) (record {

@@ -47,16 +47,12 @@ in_from s (suc n) (suc k) low = inr (subst (λ x. In x (range_with_len (s + 1) n
 pub in_range : (n d : ℕ) → d < n → In d (range_with_len 0 n)
 in_range n d low = subst (λ x. In x (range_with_len 0 n)) (let same : 0 + d ≡ d = omega arith in same) (in_from 0 n d low)
 
-any_more : (q : ℕ → Bool) (xs : List ℕ) (i : ℕ) → i < length xs → list_any q (take (suc i) xs) ≡ (list_any q (take i xs) || q (get_or xs i 0))
+pub any_more : (q : ℕ → Bool) (xs : List ℕ) (i : ℕ) → i < length xs → list_any q (take (suc i) xs) ≡ (list_any q (take i xs) || q (get_or xs i 0))
 any_more q [] i low = absurd (omega (arith, low))
 any_more q (x ∷ xs) zero low = or_false (q x)
 any_more q (x ∷ xs) (suc i) low = ap (λ b. q x || b) (any_more q xs i (omega (arith, low))) ∙ or_or (q x) (list_any q (take i xs)) (q (get_or xs i 0))
 
--- Sets of both, and of one without the other.
-
-or_within : (l p q : Bool) → ((l && p) || (l && q)) ≡ (l && (p || q))
-or_within true p q = refl
-or_within false p q = refl
+-- The set of one without the other.
 
 not_within : (l p q : Bool) → ((l && p) && not (l && q)) ≡ (l && (p && not q))
 not_within true p q = refl
@@ -72,13 +68,6 @@ module _ (m : Metamodels) where
       by : (d : ℕ) (b : Bool) → nat_lt d n ≡ b → (b && p d) ≡ (b && q d)
       by d true e = same d (ltb-true d n e)
       by d false e = refl
-
-  pub set_united : (p q : ℕ → Bool) (r s x : Row) → IsSetOf m p r → IsSetOf m q s → EndsWithin (length m.classes) x → ((d : ℕ) → is_marked x d ≡ (is_marked r d || is_marked s d))
-      → IsSetOf m (λ d. p d || q d) x
-  set_united p q r s x one other within marks = record {
-    within = within;
-    marks = λ d. marks d ∙ ap2 (λ a b. a || b) (one.marks d) (other.marks d) ∙ or_within (nat_lt d n) (p d) (q d);
-  }
 
   pub set_without : (p q : ℕ → Bool) (r s x : Row) → IsSetOf m p r → IsSetOf m q s → EndsWithin (length m.classes) x → ((d : ℕ) → is_marked x d ≡ (is_marked r d && not (is_marked s d)))
       → IsSetOf m (λ d. p d && not (q d)) x
@@ -115,20 +104,6 @@ module _ (m : Metamodels) where
       by : (d : ℕ) (b : Bool) → nat_lt d n ≡ b → false ≡ (b && p d)
       by d true e = sym (none d (ltb-true d n e))
       by d false e = refl
-
-  pub set_if : (b : Bool) (p : ℕ → Bool) (r : Row) → b ≡ true → IsSetOf m p r → IsSetOf m (λ d. b && p d) r
-  set_if b p r e is = set_same p (λ d. b && p d) r is (λ d low. ap (λ t. t && p d) (sym e))
-
-  pub set_unless : (b : Bool) (p : ℕ → Bool) (r : Row) → b ≡ false → IsSetOf m (λ d. false) r → IsSetOf m (λ d. b && p d) r
-  set_unless b p r e is = set_same (λ d. false) (λ d. b && p d) r is (λ d low. ap (λ t. t && p d) (sym e))
-
-  -- one more of a list
-  pub set_next : (p : ℕ → ℕ → Bool) (ns : List ℕ) (i : ℕ) (r s x : Row) → i < length ns → IsSetOf m (λ d. list_any (λ k. p k d) (take i ns)) r → IsSetOf m (p (get_or ns i 0)) s
-      → EndsWithin (length m.classes) x → ((d : ℕ) → is_marked x d ≡ (is_marked r d || is_marked s d)) → IsSetOf m (λ d. list_any (λ k. p k d) (take (i + 1) ns)) x
-  set_next p ns i r s x low had one within marks =
-      set_same (λ d. list_any (λ k. p k d) (take i ns) || p (get_or ns i 0) d) (λ d. list_any (λ k. p k d) (take (i + 1) ns)) x
-      (set_united (λ d. list_any (λ k. p k d) (take i ns)) (p (get_or ns i 0)) r s x had one within marks)
-      (λ d _. sym (any_more (λ k. p k d) ns i low) ∙ ap (λ j. list_any (λ k. p k d) (take j ns)) (let next : suc i ≡ i + 1 = omega arith in next))
 
   pub set_end : (p : ℕ → ℕ → Bool) (ns : List ℕ) (i : ℕ) (r : Row) → length ns ≤ i → IsSetOf m (λ d. list_any (λ k. p k d) (take i ns)) r → IsSetOf m (λ d. list_any (λ k. p k d) ns) r
   set_end p ns i r past is = set_same (λ d. list_any (λ k. p k d) (take i ns)) (λ d. list_any (λ k. p k d) ns) r is (λ d low. ap (list_any (λ k. p k d)) (take_all i ns past))

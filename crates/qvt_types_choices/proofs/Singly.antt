@@ -24,7 +24,7 @@ use Rattle.qvt_types_choices.proofs.Lowest.{Transitive, In, all_at, none_kept, s
 
 -- Lists.
 
-not_among : (x : ℕ) (xs : List ℕ) → AllByRecursion (λ y. eqb x y ≡ false) xs → In x xs → ⊥
+pub not_among : (x : ℕ) (xs : List ℕ) → AllByRecursion (λ y. eqb x y ≡ false) xs → In x xs → ⊥
 not_among x [] differ i = absurd i
 not_among x (y ∷ ys) differ i = elim i [
   | inl same ↦ clash (eq-eqb x y same) differ.0

@@ -4,3 +4,4 @@ pub mod ByClass
 pub mod Only
 pub mod Sets
 pub mod Tables
+pub mod HowMany

@@ -1,5 +1,5 @@
 -- Sets of classes as rows of bits.
-use Rattle.std.specs.Prelude.{◌≡◌, ◌<◌, ℕ, nat_lt, ◌==◌, ◌&&◌, ◌||◌, Bool, true, false, List, length, slice_index_or}
+use Rattle.std.specs.Prelude.{◌≡◌, ◌<◌, ◌+◌, ◌/◌, ℕ, min, nat_lt, ◌==◌, ◌&&◌, ◌||◌, Bool, true, false, length, slice_index_or}
 use Rattle.qvt_metas.specs.Metamodels.{Metamodels, class_at}
 use Rattle.qvt_metas.specs.Descends.{reaches}
 use Rattle.qvt_metamodel.specs.Kept.{no_row, is_marked}
@@ -20,6 +20,6 @@ pub record AreSets (m : Metamodels) (t : ClassSets) : Type 0 where
   pub abstracts : IsSetOf m (λ d. (class_at m d).is_abstract) t.abstracts
   pub none : IsSetOf m (λ d. false) t.none
 
--- the set with these words
-abbrev pub bits : List ℕ → Row
-bits ws = record { start = 0; skipped = 0; words = ws }
+-- how many words a set of numbers below a bound has
+abbrev pub word_count : ℕ → ℕ
+word_count n = min n (n / 64 + 1)

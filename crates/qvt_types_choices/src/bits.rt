@@ -1,8 +1,9 @@
 //! Sets of numbers that are made in place.
 
-ghost use Rattle.std.specs.Prelude.{◌≡◌, ◌<◌, ◌/◌, ◌+◌, ◌||◌, ◌&&◌, ◌==◌, ℕ, min, replicate, length, IfOk};
+ghost use Rattle.std.specs.Prelude.{◌≡◌, ◌<◌, ◌/◌, ◌||◌, ◌&&◌, ◌==◌, ℕ, replicate, length, IfOk};
 ghost use Rattle.qvt_metamodel.specs.Kept.{is_marked};
-ghost use Rattle.qvt_types_choices.specs.Sets.{bits};
+ghost use Rattle.qvt_counts.specs.Counts.{bits};
+ghost use Rattle.qvt_types_choices.specs.Sets.{word_count};
 
 use qvt_base::list_fault::ListFault;
 use qvt_base::seq::Seq;
@@ -10,12 +11,19 @@ use qvt_metamodel::row::Row;
 use qvt_rows::sets::bit_of;
 use std::alloc::Global;
 
+/// How many words a set of numbers below the bound has.
+pub fn word_count(bound: u32) -> u32
+    ensures { result ≡ word_count bound }
+{
+    bound.min(bound / 64 + 1)
+}
+
 /// As many words without bits as a set of numbers below the bound has.
 pub fn no_bits(alloc: Global, bound: u32) -> Result<Seq<u64>, ListFault>
-    ensures { IfOk result (λ ws. ws ≡ replicate (min bound (bound / 64 + 1)) 0) }
+    ensures { IfOk result (λ ws. ws ≡ replicate (word_count bound) 0) }
 {
     let mut words = Seq::new(alloc);
-    for place in 0..bound.min(bound / 64 + 1) {
+    for place in 0..word_count(bound) {
         words.push(0)?;
     }
     Ok(words)

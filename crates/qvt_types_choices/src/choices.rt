@@ -1,7 +1,7 @@
 //! What calls by a name find for objects of each class.
 
-ghost use Rattle.std.specs.Prelude.{◌≡◌, ◌∷◌, [], eqb, length, map, IfOk};
-ghost use Rattle.std.specs.List.{IsDistinct, range_with_len};
+ghost use Rattle.std.specs.Prelude.{◌≡◌, ◌∷◌, [], eqb, length, IfOk};
+ghost use Rattle.std.specs.List.{IsDistinct};
 ghost use Rattle.qvt_metas.specs.Tables.{EndsWithin};
 ghost use Rattle.qvt_types_units.specs.Choice as choice;
 ghost use Rattle.qvt_types_choices.specs.Sets.{AreSets};
@@ -12,16 +12,12 @@ use crate::class_sets::{ClassSets, set_below};
 use crate::only::choice_of;
 use qvt_base::list_fault::ListFault;
 use qvt_base::numbers::ClassNo;
-use qvt_base::seq::Seq;
 use qvt_metamodel::row::Row;
 use qvt_rows::sets::overlap;
 use qvt_types_paths::metas::Metas;
 use qvt_types_units::choice::{FoundUnit, context_at, is_unknown};
 use qvt_types_units::signature::{HeadClass, Signature};
 use std::alloc::Global;
-
-/// What is found for each class.
-pub type FoundRow = Seq<FoundUnit>;
 
 /// Whether the context of one of the units is unknown.
 pub fn is_unsure(units: &[Signature], group: &[u32]) -> bool
@@ -106,40 +102,4 @@ pub fn look_up(
     let choice = choice_of(metas, units, group, class);
     let is_unsure = is_unsure(units, group);
     Ok(found(metas, sets, is_unsure, &stuck, class, choice))
-}
-
-fn choice_at(choices: &[FoundUnit], class: u32) -> FoundUnit
-    ensures { result ≡ by_class.choice_at choices.now class }
-{
-    let at = class as usize;
-    if at < choices.len() {
-        choices[at]
-    } else {
-        FoundUnit::NoUnit
-    }
-}
-
-/// What is found for each class. It is the same along each order of the classes, and soon told where each comes after its
-/// superclasses.
-pub fn full_row(
-    alloc: Global,
-    metas: &Metas,
-    units: &[Signature],
-    sets: &ClassSets,
-    group: &[u32],
-    order: &[u32],
-) -> Result<FoundRow, ListFault>
-    requires sets { AreSets metas.now sets.now }
-    requires distinct { IsDistinct eqb group.now }
-    ensures { IfOk result (λ fs. fs ≡ map (choice.looked_up metas.now units.now group.now) (range_with_len 0 (length metas.now.classes))) }
-{
-    metas.are_well_formed();
-    let ClassChoices { each, stuck } = all_choices(alloc, metas, units, group, order)?;
-    let is_unsure = is_unsure(units, group);
-    let mut row = Seq::new(alloc);
-    for class in 0..metas.class_count() {
-        let choice = choice_at(each.as_slice(), class);
-        row.push(found(metas, sets, is_unsure, &stuck, ClassNo(class), choice))?;
-    }
-    Ok(row)
 }

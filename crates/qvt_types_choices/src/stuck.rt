@@ -1,19 +1,27 @@
-//! The classes without a single choice among a few units of a name, by sets of classes.
+//! The classes without a single choice among a few units of a name, by sets of classes and of how many of these each class is.
 
-ghost use Rattle.std.specs.Prelude.{◌≡◌, ◌<◌, ◌&&◌, not, eqb, length, IfOk};
+ghost use Rattle.std.specs.Prelude.{◌≡◌, ◌<◌, ◌≤◌, ◌+◌, ◌/◌, ◌&&◌, false, eqb, length, nat_lt, IfOk, IsTrue};
 ghost use Rattle.std.specs.List.{list_any, IsDistinct};
 ghost use Rattle.qvt_types_units.specs.Choice as choice;
 ghost use Rattle.qvt_types_choices.specs.Only as only;
-ghost use Rattle.qvt_types_choices.specs.Sets.{IsSetOf, AreSets};
+ghost use Rattle.qvt_counts.specs.Counts.{bits, count_at, one};
+ghost use Rattle.qvt_types_units.specs.Overrides.{is_strictly_below};
+ghost use Rattle.qvt_types_choices.specs.HowMany.{how_many};
+ghost use Rattle.qvt_types_choices.specs.Sets.{IsSetOf, AreSets, word_count};
 ghost use Rattle.qvt_types_choices.specs.Stuck.{is_stuck};
 
+use crate::bits::{no_bits, word_count};
 use crate::class_sets::{ClassSets, set_below};
 use crate::only::is_rival;
 use qvt_base::list_fault::ListFault;
+use qvt_base::seq::Seq;
+use qvt_counts::counter::Counter;
+use qvt_counts::counts::{Counts, add_set, counted_without, no_counts, put_counted};
 use qvt_metamodel::row::Row;
-use qvt_rows::sets::{empty_row, is_subset, overlap, united, without};
+use qvt_rows::sets::{empty_row, is_subset, overlap, without};
 use qvt_types_paths::metas::Metas;
 use qvt_types_units::choice::context_at;
+use qvt_types_units::overrides::is_strictly_below;
 use qvt_types_units::signature::{HeadClass, Signature};
 use std::alloc::Global;
 
@@ -29,100 +37,75 @@ fn set_of<'a>(metas: &Metas, units: &[Signature], sets: &'a ClassSets, number: u
     }
 }
 
-/// The same of the other unit, where it is a rival of this one.
-fn set_of_rival<'a>(
-    metas: &Metas,
-    units: &[Signature],
-    sets: &'a ClassSets,
-    number: u32,
-    other: u32,
-) -> &'a Row
-    requires { AreSets metas.now sets.now }
-    ensures { IsSetOf metas.now (λ d. only.is_rival metas.now units.now number other && choice.is_context_above metas.now (choice.context_at units.now other) d) result.now }
-{
-    if is_rival(metas, units, number, other) {
-        set_of(metas, units, sets, other)
-    } else {
-        &sets.none
-    }
-}
-
-/// The set of the classes that some of the units are above.
-fn set_of_any(
+/// How many of the units are above each class.
+fn counts_of(
     alloc: Global,
     metas: &Metas,
     units: &[Signature],
     sets: &ClassSets,
     group: &[u32],
-) -> Result<Row, ListFault>
-    requires { AreSets metas.now sets.now }
-    ensures { IfOk result (IsSetOf metas.now (λ d. list_any (λ n. choice.is_context_above metas.now (choice.context_at units.now n) d) group.now)) }
+) -> Result<Counts, ListFault>
+    requires sets { AreSets metas.now sets.now }
+    requires few { length group.now ≤ 126 }
+    ensures each { IfOk result (λ counts. length counts ≡ word_count (length metas.now.classes)) }
+    ensures counts { IfOk result (λ counts. (d : ℕ) → d / 64 < length counts → count_at counts d ≡ how_many (λ n. nat_lt d (length metas.now.classes) && choice.is_context_above metas.now (choice.context_at units.now n) d) group.now) }
 {
     let count = metas.class_count();
-    let mut row = empty_row(alloc);
+    let mut counts = no_counts(alloc, word_count(count))?;
     for number in group {
-        row = united(alloc, count, &row, set_of(metas, units, sets, *number))?;
+        add_set(&mut counts, count, set_of(metas, units, sets, *number));
     }
-    Ok(row)
+    Ok(counts)
 }
 
-/// The set of the classes that the rivals of the unit are above.
-fn set_of_rivals(
-    alloc: Global,
-    metas: &Metas,
-    units: &[Signature],
-    sets: &ClassSets,
-    group: &[u32],
-    number: u32,
-) -> Result<Row, ListFault>
-    requires { AreSets metas.now sets.now }
-    ensures { IfOk result (IsSetOf metas.now (λ d. list_any (λ k. only.is_rival metas.now units.now number k && choice.is_context_above metas.now (choice.context_at units.now k) d) group.now)) }
+/// 1 where it is so.
+#[tactic(auto, unfolding(qvt_counts::specs::Counts::one))]
+fn one_if(is_so: bool) -> u32
+    ensures { result ≡ one is_so }
 {
-    let count = metas.class_count();
-    let mut row = empty_row(alloc);
+    if is_so { 1 } else { 0 }
+}
+
+/// One more than the number of units that are strictly above this one.
+fn level_of(metas: &Metas, units: &[Signature], group: &[u32], number: u32) -> u32
+    requires few { length group.now ≤ 126 }
+    ensures { result ≡ how_many (λ k. is_strictly_below metas.now (choice.context_at units.now number) (choice.context_at units.now k)) group.now + 1 }
+{
+    let context = context_at(units, number);
+    let mut level = 1;
     for other in group {
-        let rival = set_of_rival(metas, units, sets, number, *other);
-        row = united(alloc, count, &row, rival)?;
+        level += one_if(is_strictly_below(metas, context, context_at(units, *other)));
     }
-    Ok(row)
+    level
 }
 
-/// The set of the classes whose single choice the unit is.
-fn set_of_single(
+/// The words of the set of the classes that have a single choice. A unit is that of a class below it where as many of the units are above
+/// the class as strictly above the unit, and itself.
+fn words_of_singles(
     alloc: Global,
     metas: &Metas,
     units: &[Signature],
     sets: &ClassSets,
     group: &[u32],
-    number: u32,
-) -> Result<Row, ListFault>
-    requires { AreSets metas.now sets.now }
-    ensures { IfOk result (IsSetOf metas.now (only.is_only metas.now units.now group.now number)) }
+    counts: &[Counter],
+) -> Result<Seq<u64>, ListFault>
+    requires sets { AreSets metas.now sets.now }
+    requires few { length group.now ≤ 126 }
+    requires distinct { IsDistinct eqb group.now }
+    requires each { length counts.now ≡ word_count (length metas.now.classes) }
+    requires counts { (d : ℕ) → d / 64 < length counts.now → count_at counts.now d ≡ how_many (λ n. nat_lt d (length metas.now.classes) && choice.is_context_above metas.now (choice.context_at units.now n) d) group.now }
+    ensures each { IfOk result (λ words. length words ≡ length counts.now) }
+    ensures marks { IfOk result (λ words. IsSetOf metas.now (λ d. list_any (λ n. only.is_only metas.now units.now group.now n d) group.now) (bits words)) }
 {
-    let rivals = set_of_rivals(alloc, metas, units, sets, group, number)?;
-    let own = set_of(metas, units, sets, number);
-    let single = without(alloc, metas.class_count(), own, &rivals)?;
-    Ok(single)
-}
-
-/// The set of the classes that have a single choice.
-fn set_of_singles(
-    alloc: Global,
-    metas: &Metas,
-    units: &[Signature],
-    sets: &ClassSets,
-    group: &[u32],
-) -> Result<Row, ListFault>
-    requires { AreSets metas.now sets.now }
-    ensures { IfOk result (IsSetOf metas.now (λ d. list_any (λ n. only.is_only metas.now units.now group.now n d) group.now)) }
-{
+    metas.are_well_formed();
     let count = metas.class_count();
-    let mut row = empty_row(alloc);
+    let mut words = no_bits(alloc, count)?;
     for number in group {
-        let single = set_of_single(alloc, metas, units, sets, group, *number)?;
-        row = united(alloc, count, &row, &single)?;
+        let set = set_of(metas, units, sets, *number);
+        let level = level_of(metas, units, group, *number);
+        put_counted(&mut words, count, set, counts, level);
     }
-    Ok(row)
+    Ok(words)
 }
 
 /// Whether each of the two units is a rival of the other. Two are asked once, in the order of their numbers.
@@ -191,8 +174,20 @@ pub fn emptied(alloc: Global, metas: &Metas, set: Row) -> Row
 ghost use Rattle.std.specs.Prelude.{ℕ, Bool};
 ghost use Rattle.qvt_metas.specs.Tables.{EndsWithin};
 
-/// The set of the concrete classes that some of the units are above and that have no single choice. Where no two of them are rivals of
-/// each other with a class below both, there is none: those above a class then stand one strictly below another.
+/// Of so many units each is compared with each, which takes no longer than to count.
+const MOST_COMPARED: usize = 16;
+
+/// Whether there are so few units that they are compared, and no two of them are rivals of each other with a class below both.
+fn are_apart(metas: &Metas, units: &[Signature], sets: &ClassSets, group: &[u32]) -> bool
+    requires { AreSets metas.now sets.now }
+    ensures { IsTrue result → list_any (λ n. list_any (only.is_contested metas.now units.now n) group.now) group.now ≡ false }
+{
+    group.len() <= MOST_COMPARED && !are_contested(metas, units, sets, group)
+}
+
+/// The set of the concrete classes that some of the units are above and that have no single choice, of up to 126 units: each is asked
+/// whether it is strictly below each, and the set of each is gone through twice. Where no two of them are rivals of each other with a
+/// class below both, there is none: those above a class then stand one strictly below another.
 pub fn set_of_stuck(
     alloc: Global,
     metas: &Metas,
@@ -202,16 +197,16 @@ pub fn set_of_stuck(
 ) -> Result<Row, ListFault>
     requires sets { AreSets metas.now sets.now }
     requires distinct { IsDistinct eqb group.now }
+    requires few { length group.now ≤ 126 }
     ensures { IfOk result (IsSetOf metas.now (is_stuck metas.now units.now group.now)) }
 {
     metas.are_well_formed();
-    if !are_contested(metas, units, sets, group) {
+    if are_apart(metas, units, sets, group) {
         return Ok(empty_row(alloc));
     }
-    let count = metas.class_count();
-    let any = set_of_any(alloc, metas, units, sets, group)?;
-    let concrete = without(alloc, count, &any, &sets.abstracts)?;
-    let singles = set_of_singles(alloc, metas, units, sets, group)?;
-    let stuck = without(alloc, count, &concrete, &singles)?;
+    let counts = counts_of(alloc, metas, units, sets, group)?;
+    let singles = words_of_singles(alloc, metas, units, sets, group, counts.as_slice())?;
+    let others = counted_without(alloc, counts.as_slice(), singles.as_slice())?;
+    let stuck = without(alloc, metas.class_count(), &others, &sets.abstracts)?;
     Ok(emptied(alloc, metas, stuck))
 }

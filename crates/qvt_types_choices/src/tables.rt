@@ -1,12 +1,13 @@
 //! What is told once of the units of a name, and what calls find by it.
 
-ghost use Rattle.std.specs.Prelude.{◌≡◌, eqb, slice_get, IfOk, IfSome};
+ghost use Rattle.std.specs.Prelude.{◌≡◌, eqb, false, IfOk, IfSome};
 ghost use Rattle.std.specs.List.{IsDistinct};
 ghost use Rattle.qvt_types_units.specs.Choice as choice;
 ghost use Rattle.qvt_types_choices.specs.Sets.{AreSets};
 ghost use Rattle.qvt_types_choices.specs.Tables.{TellsOf};
 
-use crate::choices::{FoundRow, found, full_row, is_unsure};
+use crate::choices::{found, is_unsure};
+use crate::class_choices::{ClassChoices, all_choices};
 use crate::class_sets::ClassSets;
 use crate::only::choice_of;
 use crate::stuck::set_of_stuck;
@@ -18,18 +19,20 @@ use qvt_types_units::choice::FoundUnit;
 use qvt_types_units::signature::Signature;
 use std::alloc::Global;
 
-/// So many units of a name are few: to compare each with each by sets of classes takes no longer than to look at each class.
-const MOST_FEW: usize = 16;
+/// So many units of a name are few: the numbers up to one more than theirs have seven binary digits, and a call looks at each of them.
+const MOST_FEW: usize = 126;
 
 /// What is told once of the units of a name.
 #[derive(Drop)]
 pub enum GroupTable {
     /// Nothing.
     Untold,
+    /// The context of one of them is unknown.
+    Unsure,
     /// Of a few the set of the concrete classes that some of them are above and that have no single choice.
     Stuck(Row),
-    /// Of many what is found for each class.
-    Each(FoundRow),
+    /// Of many the choice for each class as well.
+    Each(ClassChoices),
 }
 
 /// What is told of the units of a name, by an order of the classes.
@@ -48,12 +51,15 @@ pub fn group_table(
     if group.len() < 2 {
         return Ok(GroupTable::Untold);
     }
+    if is_unsure(units, group) {
+        return Ok(GroupTable::Unsure);
+    }
     if group.len() <= MOST_FEW {
         let stuck = set_of_stuck(alloc, metas, units, sets, group)?;
         return Ok(GroupTable::Stuck(stuck));
     }
-    let row = full_row(alloc, metas, units, sets, group, order)?;
-    Ok(GroupTable::Each(row))
+    let choices = all_choices(alloc, metas, units, group, order)?;
+    Ok(GroupTable::Each(choices))
 }
 
 /// What is found for the class by a few units, where these are the classes without a single choice.
@@ -67,23 +73,41 @@ fn found_by_few(
 ) -> FoundUnit
     requires sets { AreSets metas.now sets.now }
     requires distinct { IsDistinct eqb group.now }
+    requires sure { is_unsure units.now group.now ≡ false }
     requires stuck { IsSetOf metas.now (is_stuck metas.now units.now group.now) stuck.now }
     ensures { result ≡ choice.looked_up metas.now units.now group.now class.0 }
 {
     metas.are_well_formed();
     let choice = choice_of(metas, units, group, class);
-    found(metas, sets, is_unsure(units, group), stuck, class, choice)
+    found(metas, sets, false, stuck, class, choice)
 }
 
+ghost use Rattle.qvt_types_units.specs.Choice.{is_unsure};
 ghost use Rattle.qvt_types_choices.specs.Sets.{IsSetOf};
 ghost use Rattle.qvt_types_choices.specs.Stuck.{is_stuck};
 
-/// What stands in the row of a class, if it is that long.
-fn row_at(row: &[FoundUnit], class: ClassNo) -> Option<FoundUnit>
-    ensures { result ≡ slice_get row.now class.0 }
+/// What is found for the class by the choice for each, if that tells it.
+fn found_by_many(
+    metas: &Metas,
+    units: &[Signature],
+    sets: &ClassSets,
+    group: &[u32],
+    choices: &ClassChoices,
+    class: ClassNo,
+) -> Option<FoundUnit>
+    requires sets { AreSets metas.now sets.now }
+    requires sure { is_unsure units.now group.now ≡ false }
+    requires chosen { AreChosen metas.now units.now group.now choices.now }
+    ensures { IfSome result (λ f. f ≡ choice.looked_up metas.now units.now group.now class.0) }
 {
-    row.get(class.0 as usize).copied()
+    metas.are_well_formed();
+    match choices.each.as_slice().get(class.0 as usize) {
+        None => None,
+        Some(choice) => Some(found(metas, sets, false, &choices.stuck, class, *choice)),
+    }
 }
+
+ghost use Rattle.qvt_types_choices.specs.ByClass.{AreChosen};
 
 /// What is found for the class by what is told, if that tells it.
 pub fn found_in(
@@ -102,6 +126,7 @@ pub fn found_in(
     match table {
         GroupTable::Untold => None,
         GroupTable::Stuck(stuck) => Some(found_by_few(metas, units, sets, group, stuck, class)),
-        GroupTable::Each(row) => row_at(row.as_slice(), class),
+        GroupTable::Unsure => Some(FoundUnit::Untyped),
+        GroupTable::Each(choices) => found_by_many(metas, units, sets, group, choices, class),
     }
 }

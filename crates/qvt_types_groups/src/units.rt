@@ -145,7 +145,7 @@ fn told_units(
 }
 
 /// Metamodels with Element and the intermediate classes of a transformation, and its units. Of each name that several units have it is
-/// told once which classes have no single choice, and for many units what is found for each class; where no name has several, nothing.
+/// told once which classes have no single choice, and for many units the choice for each class; where no name has several, nothing.
 pub struct Units {
     metas: Metas,
     names: UnitNames,

@@ -45,7 +45,7 @@ fn parts_of(word: &str) -> Option<(&str, char, &str)> {
     None
 }
 
-fn feature_of(alloc: Global, word: &str) -> Result<FeatureData, Fail> {
+fn read_feature(alloc: Global, word: &str) -> Result<FeatureData, Fail> {
     let (name, sign, kind) = parts_of(word).ok_or("a feature")?;
     let (kind, upper) = match kind.strip_suffix('*') {
         Some(kind) => (kind, None),
@@ -58,10 +58,10 @@ fn feature_of(alloc: Global, word: &str) -> Result<FeatureData, Fail> {
     })
 }
 
-fn features_of(alloc: Global, words: &str) -> Result<FeatureDataList, Fail> {
+fn read_features(alloc: Global, words: &str) -> Result<FeatureDataList, Fail> {
     let mut features = Seq::new(alloc);
     for word in words.split_whitespace() {
-        features.push(feature_of(alloc, word)?)?;
+        features.push(read_feature(alloc, word)?)?;
     }
     Ok(features)
 }
@@ -74,20 +74,20 @@ fn supers_of(alloc: Global, words: &str) -> Result<ClassNoList, Fail> {
     Ok(supers)
 }
 
-fn class_of(alloc: Global, line: &str) -> Result<ClassData, Fail> {
+fn read_class(alloc: Global, line: &str) -> Result<ClassData, Fail> {
     let (name, rest) = line.split_once('/').ok_or("a class")?;
     let (supers, features) = rest.split_once('/').ok_or("superclasses")?;
     Ok(ClassData {
         name: Text::from_str(alloc, name)?,
         supers: supers_of(alloc, supers)?,
-        features: features_of(alloc, features)?,
+        features: read_features(alloc, features)?,
     })
 }
 
-fn classes_of(alloc: Global, lines: &str) -> Result<ClassDataList, Fail> {
+fn read_classes(alloc: Global, lines: &str) -> Result<ClassDataList, Fail> {
     let mut classes = Seq::new(alloc);
     for line in lines.lines() {
-        classes.push(class_of(alloc, line)?)?;
+        classes.push(read_class(alloc, line)?)?;
     }
     Ok(classes)
 }
@@ -121,7 +121,7 @@ fn conditions_of_given_classes(rt: HostRuntime) -> Result<(), Fail> {
     let alloc = rt.alloc();
     let metas = Metas::new(alloc);
     for (lines, expected) in &CASES {
-        let classes = classes_of(alloc, lines)?;
+        let classes = read_classes(alloc, lines)?;
         let given = are_given(alloc, &metas, &classes)?;
         assert!(rt; given == *expected, "{lines:?}");
     }
@@ -131,7 +131,7 @@ fn conditions_of_given_classes(rt: HostRuntime) -> Result<(), Fail> {
 /// The metamodels of these classes alone, with Element before them.
 fn extended(alloc: Global, lines: &str) -> Result<Metas, Fail> {
     let metas = Metas::new(alloc);
-    let classes = classes_of(alloc, lines)?;
+    let classes = read_classes(alloc, lines)?;
     if !are_given(alloc, &metas, &classes)? {
         return Err(Fail::new("classes that can not come"));
     }

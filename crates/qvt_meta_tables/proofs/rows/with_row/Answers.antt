@@ -11,4 +11,4 @@ returns-clause-marks c =
     let other_end : c.args.other.now.skipped + length c.args.other.now.words ≤ c.first_word-first.result + length c.loop-number.words = omega (arith, c.loop-number.invariant.each, over, c.max.ensures, c.max-end.ensures, c.end_of-2.ensures) in
     joined_marks c.args.row.now c.args.other.now _ c.args.class c.requires.row.start c.requires.other.start refl
     (joined_words c.args.row.now c.args.other.now c.args.class c.first_word-first.result c.loop-number.words low high
-    (λ h. omega (arith, c.first_word-first.ensures.number, c.first_word.ensures.first h)) (λ h. c.first_word-first.ensures.first h) row_end other_end c.loop-number.invariant.words)
+    (λ h. omega (arith, c.first_word-first.ensures.number, c.first_word.ensures.first h)) (λ h. omega (arith, c.first_word-first.ensures.first h)) row_end other_end c.loop-number.invariant.words)

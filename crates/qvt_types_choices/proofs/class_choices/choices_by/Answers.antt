@@ -1,7 +1,8 @@
 use Rattle.std.proofs.Common.{◌≡◌, ◌∙◌, ◌++◌, ◌∷◌, ◌&&◌, [], length, ap, refl, sym, subst, arith}
 use Rattle.std.specs.Prelude.{nat_lt}
 use Rattle.qvt_types_paths.proofs.Places.{map_range_more}
-use Rattle.qvt_types_choices.specs.Sets.{bits, IsSetOf}
+use Rattle.qvt_types_choices.specs.Sets.{IsSetOf}
+use Rattle.qvt_counts.specs.Counts.{bits}
 use Rattle.qvt_types_choices.specs.Stuck.{is_stuck}
 use Rattle.qvt_types_choices.specs.ByClass.{choice_for, choices, is_stuck_by}
 use Rattle.qvt_types_choices.proofs.Marked.{word_few}

@@ -1,10 +1,10 @@
 use Rattle.std.proofs.Common.{◌≡◌, ℕ, ◌&&◌, length}
 use Rattle.std.specs.Prelude.{nat_lt}
 use Rattle.qvt_metamodel.specs.Kept.{is_marked}
-use Rattle.qvt_types_choices.specs.Sets.{bits}
+use Rattle.qvt_counts.specs.Counts.{bits}
 use Rattle.qvt_types_choices.specs.Stuck.{is_stuck}
 use Rattle.qvt_types_choices.specs.ByClass.{choices}
-use Rattle.qvt_types_choices.proofs.Marked.{word_count}
+use Rattle.qvt_types_choices.specs.Sets.{word_count}
 use Rattle.qvt_types_choices.proofs.class_choices.choices_by.Given as goal
 
 abbrev pub invariant-loop-class : goal.invariant-loop-class

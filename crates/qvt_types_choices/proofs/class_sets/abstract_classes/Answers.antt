@@ -1,6 +1,6 @@
 use Rattle.std.proofs.Common.{◌∙◌}
 use Rattle.qvt_metas.specs.Metamodels.{class_at}
-use Rattle.qvt_types_choices.specs.Sets.{bits}
+use Rattle.qvt_counts.specs.Counts.{bits}
 use Rattle.qvt_types_choices.proofs.Sets.{marks_next}
 use Rattle.qvt_types_choices.proofs.class_sets.abstract_classes.Goals as goal
 

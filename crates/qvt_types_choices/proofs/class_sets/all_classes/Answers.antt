@@ -1,5 +1,5 @@
 use Rattle.std.proofs.Common.{◌∙◌, true, refl}
-use Rattle.qvt_types_choices.specs.Sets.{bits}
+use Rattle.qvt_counts.specs.Counts.{bits}
 use Rattle.qvt_types_choices.proofs.Sets.{marks_next}
 use Rattle.qvt_types_choices.proofs.class_sets.all_classes.Goals as goal
 

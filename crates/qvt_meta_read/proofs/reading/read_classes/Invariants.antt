@@ -1,0 +1,7 @@
+use Rattle.std.proofs.Common.{◌≡◌, ◌++◌, drop}
+use Rattle.serde_json.specs.View.{items_view}
+use Rattle.qvt_meta_read.specs.DataOf.{map_items, class_data}
+use Rattle.qvt_meta_read.proofs.reading.read_classes.Given as goal
+
+abbrev pub invariant-loop-item : goal.invariant-loop-item
+invariant-loop-item l = l.classes ++ map_items class_data (items_view (drop l.item-index l.item-items)) ≡ map_items class_data (items_view l.item-items)
