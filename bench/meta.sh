@@ -72,21 +72,18 @@ awk 'BEGIN{
   printf "],\"name\":\"B\"}],\"name\":\"M\"}"
 }' >m.json
 tell "8,900 pairs of opposites of two classes"
-awk 'BEGIN{
-  printf "{\"classes\":[{\"features\":["
-  for (i = 0; i < 4000; i++) printf "%s{\"name\":\"f%d\",\"type\":\"Integer\"}", (i ? "," : ""), i
-  printf "],\"name\":\"C\"}"
-  for (i = 0; i < 4000; i++) printf ",{\"name\":\"D%d\",\"supers\":[\"C\"]}", i
-  printf "],\"name\":\"M\"}"
-}' >m.json
+above() { # a class with so many features, and as many classes below it
+  awk -v most="$1" 'BEGIN{
+    printf "{\"classes\":[{\"features\":["
+    for (i = 0; i < most; i++) printf "%s{\"name\":\"f%d\",\"type\":\"Integer\"}", (i ? "," : ""), i
+    printf "],\"name\":\"C\"}"
+    for (i = 0; i < most; i++) printf ",{\"name\":\"D%d\",\"supers\":[\"C\"]}", i
+    printf "],\"name\":\"M\"}"
+  }' >m.json
+}
+above 4000
 tell "4,000 features above 4,000 classes"
-awk 'BEGIN{
-  printf "{\"classes\":[{\"features\":["
-  for (i = 0; i < 15400; i++) printf "%s{\"name\":\"f%d\",\"type\":\"Integer\"}", (i ? "," : ""), i
-  printf "],\"name\":\"C\"}"
-  for (i = 0; i < 15400; i++) printf ",{\"name\":\"D%d\",\"supers\":[\"C\"]}", i
-  printf "],\"name\":\"M\"}"
-}' >m.json
+above 15400
 tell "15,400 features above 15,400 classes"
 awk 'BEGIN{
   printf "{\"classes\":[],\"enums\":["
