@@ -41,13 +41,13 @@ tell() { # what the text is, and what the typing of a tenth of it took, or 0
 # a text of so many bytes at most: what stands before, a piece again and again, what stands after; in a piece # is its number, ~ the
 # number after that, and % the number of the next piece, which for the last is the first
 texts() { # name, front (where it is empty, the one that is made for a text of so many bytes), piece, end
-  local size begin
+  local size before
   tenth=0
   for size in $((most / 10)) "$most"; do
     remade "$size"
-    begin=${2:-$front}
-    printf '%s' "$begin" >t.qvto
-    awk -v most="$size" -v front="${#begin}" -v piece="$3" -v end="$4" 'BEGIN{
+    before=${2:-$front}
+    printf '%s' "$before" >t.qvto
+    awk -v most="$size" -v front="${#before}" -v piece="$3" -v end="$4" 'BEGIN{
       room = most - front - length(end)
       while (1) {
         long = piece; gsub(/[#%~]/, 1000 * 10, long)
@@ -145,7 +145,7 @@ texts "queries of one name with parameters, of a chain" "$main" 'query C#::q(a :
 texts "two queries of each of many names" "$main" 'query Book::q#() : Integer = #; query C0::q#() : Integer = #; ' ''
 texts "two queries of each of many names, of which one overrides the other" "$main" 'query Named::q#() : Integer = #; query C0::q#() : Integer = #; ' ''
 texts "a hundred queries of each of many names" "$main" "$(for i in $(seq 0 99); do printf 'query D%d::q#() : Integer = #; ' "$i"; done)" ''
-for count in 17 126 127; do
+for count in 7 17 126 127; do
   texts "$count queries of each of many names" "$main" "$(for i in $(seq 0 $((count - 1))); do printf 'query D%d::q#() : Integer = #; ' "$i"; done)" ''
 done
 calls() { # so many queries of each of some names, on about half of a text of so many bytes, for calls of one of them on the other half
@@ -172,7 +172,7 @@ spread() {
     printf "],\"enums\":[],\"name\":\"M\"}"
   }' >m.json
 }
-for family in "16 0" "16 1" "16 8000" "17 0" "17 8000" "126 8000"; do
+for family in "6 0" "6 1" "6 8000" "7 0" "7 8000" "126 8000" "127 8000"; do
   read -r count joins <<<"$family"
   spread "$count" "$joins"
   texts "$count queries of each of many names, of $count classes; the others are below one of these, $joins of them below two" "$main" "$(for i in $(seq 0 $((count - 1))); do printf 'query D%d::q#() : Integer = #; ' "$i"; done)" ''

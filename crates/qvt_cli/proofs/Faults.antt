@@ -3,7 +3,7 @@ use Rattle.std.proofs.Common.{◌≡◌, ◌≢◌, ◌∙◌, ◌<◌, ap, sym,
 use Rattle.std.specs.Prelude.{length, if◌then◌else◌}
 use Rattle.std.specs.List.{AllByRecursion}
 use Rattle.qvt_metas.specs.Metamodels.{Metamodels}
-use Rattle.qvt_metamodel.specs.Added.{added, numbered}
+use Rattle.qvt_metas.specs.Added.{added, numbered}
 use Rattle.qvt_metamodel.specs.Joined.{joined}
 use Rattle.qvt_metamodel.specs.declared.declared.MetaData.{MetaData}
 use Rattle.qvt_metamodel.specs.declared.info.MetamodelInfo.{MetamodelInfo}

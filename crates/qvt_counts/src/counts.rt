@@ -14,10 +14,10 @@ use qvt_rows::sets::word_without;
 use std::alloc::Global;
 
 /// Counts for the numbers of some words.
-pub type Counts = Seq<Counter>;
+pub type SetCounts = Seq<Counter>;
 
 /// For each number of as many words the count 0.
-pub fn no_counts(alloc: Global, words: u32) -> Result<Counts, ListFault>
+pub fn no_counts(alloc: Global, words: u32) -> Result<SetCounts, ListFault>
     ensures each { IfOk result (λ counts. length counts ≡ words) }
     ensures none { IfOk result (λ counts. (d : ℕ) → count_at counts d ≡ 0) }
 {
@@ -28,7 +28,7 @@ pub fn no_counts(alloc: Global, words: u32) -> Result<Counts, ListFault>
 }
 
 /// One more for each number in the set. Nothing is told of a number that has the count 127.
-pub fn add_set(counts: &mut Counts, bound: u32, set: &Row)
+pub fn add_set(counts: &mut SetCounts, bound: u32, set: &Row)
     requires { EndsWithin bound set.now }
     ensures each { length counts.new ≡ length counts.old }
     ensures counts { (d : ℕ) → d / 64 < length counts.old → count_at counts.old d < 127 → count_at counts.new d ≡ count_at counts.old d + one (is_marked set.now d) }

@@ -1,5 +1,5 @@
 -- A run of `main` that keeps requests alone.
-use Rattle.qvt_slots.specs.Contents.{Contents}
+use Rattle.qvt_store.specs.Contents.{Contents}
 use Rattle.qvt_run_data.specs.declared.late.LateWrite.{LateWrite}
 use Rattle.qvt_run_rules.specs.State.{Done, Does}
 use Rattle.qvt_meaning.specs.Run.{main_does, main_run}

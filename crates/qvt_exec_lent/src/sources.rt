@@ -24,7 +24,7 @@ use qvt_exec_state::state::RunState;
 use qvt_exec_state::steps::{misfit, tick};
 use qvt_exec_state::store::Store;
 use qvt_run_data::exit::Halt;
-use qvt_slots::features::is_single;
+use qvt_store::features::is_single;
 use qvt_value::items::Items;
 use qvt_value::limits::MOST;
 use qvt_value::value::{Kind, Value};

@@ -155,7 +155,7 @@ impl<'a> Sieve<'a> {
     /// Puts the far end of a record last, if the record is of one of the mappings that are looked at, and the far end
     /// is a candidate that does not stand there.
     #[tactic(auto, using(crate::proofs::Ends::one_within, crate::proofs::Ends::one_without))]
-    pub fn take(&self, found: &mut NumberSet, call: &Record) -> Result<(), ListFault>
+    pub(crate) fn take(&self, found: &mut NumberSet, call: &Record) -> Result<(), ListFault>
         ensures { OnOk result (oids found.new ≡ ends_within self.now.store.now self.now.request.now (oids found.old) (call.now ∷ [])) }
     {
         if self.is_within(call) {

@@ -1,6 +1,6 @@
 //! What a late assignment keeps (QVT 1.3, 8.1.10).
 
-ghost use Rattle.std.specs.Prelude.{◌≡◌, map, IfOk};
+ghost use Rattle.std.specs.Prelude.{◌≡◌, map, IfOk, OnErr};
 ghost use Rattle.qvt_metas.specs.Descends.{is_class_kind};
 ghost use Rattle.qvt_run_rules.specs.Locals.{var_of};
 ghost use Rattle.qvt_run_rules.specs.Resolve as rule;
@@ -123,7 +123,7 @@ pub fn late_write(
     })
 }
 
-/// Keeps a late assignment: an entry more.
+/// Keeps a late assignment: an entry more. A refused call changes nothing.
 pub fn entered(
     alloc: Global,
     object: Oid,
@@ -133,7 +133,8 @@ pub fn entered(
     place: Place,
     state: &mut RunState<'_>,
 ) -> Result<(), Halt>
-    ensures { Runs (rule.entered kept object feature.0 adds query place (seen state.old)) result state.new }
+    ensures ok { Runs (rule.entered kept object feature.0 adds query place (seen state.old)) result state.new }
+    ensures err { OnErr result (state.new ≡ state.old) }
 {
     let write = late_write(alloc, object, feature, adds, query, place, state)?;
     state.entries.push(write)?;

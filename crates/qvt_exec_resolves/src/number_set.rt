@@ -1,6 +1,6 @@
 //! Numbers, each of them once.
 
-ghost use Rattle.std.specs.Prelude.{◌≡◌, [], OnOk};
+ghost use Rattle.std.specs.Prelude.{◌≡◌, [], OnErr, OnOk};
 ghost use Rattle.qvt_meaning.specs.Program.{with_number};
 ghost use Rattle.qvt_exec_resolves.specs.Numbers.{has};
 
@@ -46,10 +46,11 @@ impl NumberSet {
         self.keys.contains(&number)
     }
 
-    /// Puts the number last, unless it is there.
+    /// Puts the number last, unless it is there. A refused call changes nothing.
     #[tactic(auto, using(crate::proofs::Numbers::put))]
     pub fn add(&mut self, number: u32) -> Result<(), ListFault>
-        ensures { OnOk result (self.new ≡ with_number self.old number) }
+        ensures ok { OnOk result (self.new ≡ with_number self.old number) }
+        ensures err { OnErr result (self.new ≡ self.old) }
     {
         match self.keys.insert(number) {
             Ok(_) => Ok(()),

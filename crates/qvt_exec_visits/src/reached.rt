@@ -53,7 +53,7 @@ impl Reached {
     }
 
     /// The item is visited. It stays where it is if it was visited before.
-    pub fn add(&mut self, item: Value) -> Result<(), ListFault>
+    pub(crate) fn add(&mut self, item: Value) -> Result<(), ListFault>
         ensures { OnOk result (self.new ≡ with_item self.old item) }
     {
         let Ok(_) = self.items.insert(item) else {

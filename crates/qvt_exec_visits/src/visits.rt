@@ -71,6 +71,7 @@ impl Visits {
 
     /// Visits an item, with the value of the body for it: the objects of that come before the items that
     /// were waiting. None where the closure goes on. A body that is invalid ends it, and is given back.
+    /// After a refusal the visits are to be given up.
     pub fn take(&mut self, item: Value, given: Value) -> Result<Option<Value>, ListFault>
         ensures { IfOk result (λ ended. TakesBodyValue self.old item given ended self.new) }
     {

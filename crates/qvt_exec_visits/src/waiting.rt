@@ -80,7 +80,7 @@ impl Waiting {
     }
 
     /// Puts the items of the value first that are not null, in their order.
-    pub fn push_items(&mut self, value: Value) -> Result<(), ListFault>
+    pub(crate) fn push_items(&mut self, value: Value) -> Result<(), ListFault>
         ensures { OnOk result (self.new ≡ present_items (items_of value) ++ self.old) }
     {
         match value.into_items() {

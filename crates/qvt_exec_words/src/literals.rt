@@ -168,7 +168,7 @@ impl Gathered {
         Ok(())
     }
 
-    /// Puts the item last.
+    /// Puts the item last. After a refusal what was gathered is to be given up.
     pub fn push(&mut self, alloc: Global, item: Value) -> Result<(), ListFault>
         ensures { OnOk result (HasMore (item ∷ []) self.old self.new) }
     {
@@ -205,7 +205,7 @@ impl Gathered {
     }
 
     /// Puts the items of the range with these ends. Where they are no ends of a range nothing is put,
-    /// and it answers so.
+    /// and it answers so. After a refusal what was gathered is to be given up.
     #[tactic(auto, using(crate::proofs::Gathering::ranged, crate::proofs::Gathering::not_ranged))]
     pub fn push_range(
         &mut self,

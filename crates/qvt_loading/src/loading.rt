@@ -36,19 +36,6 @@ pub fn empty_store(alloc: Global, metas: &Metas, extents: &ExtentList) -> Option
     }
 }
 
-/// Whether no fault of the model is told.
-fn is_faultless(alloc: Global, metas: &Metas, metamodel: u32, model: &ModelData) -> bool
-    requires { IsModel metas.now metamodel model.now.objects }
-    ensures { IsTrue result → Conforms metas.now model.now.objects }
-{
-    faultless_conforms();
-    let _metamodel = metamodel;
-    match conform(alloc, model, metas) {
-        Ok(()) => true,
-        Err(_) => false,
-    }
-}
-
 /// The model of a text, if it is one of the metamodel, and no fault of it is told.
 pub fn read_faultless(
     alloc: Global,
@@ -63,10 +50,11 @@ pub fn read_faultless(
     let Ok(model) = read_model(alloc, bytes, metas, metamodel) else {
         return None;
     };
-    if !is_faultless(alloc, metas, metamodel, &model) {
-        return None;
+    faultless_conforms();
+    match conform(alloc, &model, metas) {
+        Ok(()) => Some(model),
+        Err(_) => None,
     }
-    Some(model)
 }
 
 /// Whether the extent is there and has this metamodel.

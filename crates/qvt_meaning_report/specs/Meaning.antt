@@ -6,7 +6,7 @@ use Rattle.qvt_base.specs.declared.numbers.Place.{Place}
 use Rattle.qvt_conform.specs.LowerBounds.{low_of}
 use Rattle.qvt_conform.specs.declared.fault.LowFault.{LowFault}
 use Rattle.qvt_json.specs.Steps.{or_next}
-use Rattle.qvt_slots.specs.Contents.{Contents, extent_at, is_model}
+use Rattle.qvt_store.specs.Contents.{Contents, extent_at, is_model}
 use Rattle.qvt_meaning.specs.Accepts.{ProgramTerm}
 use Rattle.qvt_run_data.specs.declared.fault.RunFault.{RunFault}
 use Rattle.qvt_run_data.specs.declared.exit.End.{End}

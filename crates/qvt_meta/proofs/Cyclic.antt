@@ -11,7 +11,7 @@ use Rattle.qvt_metamodel.specs.declared.declared.DeclaredClass.{DeclaredClass}
 use Rattle.qvt_metamodel.specs.declared.declared.MetaData.{MetaData}
 use Rattle.qvt_metamodel.specs.MetaData.{class_names}
 use Rattle.qvt_metas.specs.Descends.{is_superclass}
-use Rattle.qvt_metamodel.specs.Added.{declared_at, nothing_declared, names_of, place_in, first_begin, class_info, class_infos}
+use Rattle.qvt_metas.specs.Added.{declared_at, nothing_declared, names_of, place_in, first_begin, class_info, class_infos}
 use Rattle.qvt_metamodel.specs.Checks.{first_from, is_super, inheritance_cycle}
 use Rattle.qvt_metas.specs.Tables.{of_classes}
 use Rattle.qvt_json.specs.Steps.{or_next}

@@ -1,7 +1,7 @@
 -- The table of how many features stand before those of each class.
 use Rattle.std.proofs.Common.{◌≡◌, ◌∙◌, ℕ, zero, suc, ◌+◌, ◌≤◌, List, [], ◌∷◌, length, take, get_or, arith}
 use Rattle.qvt_metamodel.specs.declared.declared.DeclaredClass.{DeclaredClass}
-use Rattle.qvt_metamodel.specs.Added.{feature_count}
+use Rattle.qvt_metas.specs.Added.{feature_count}
 use Rattle.qvt_meta.specs.Places.{firsts_of}
 
 pub firsts_length : (n : ℕ) (ks : List DeclaredClass) → length (firsts_of n ks) ≡ length ks + 1

@@ -5,12 +5,12 @@ use Rattle.qvt_metamodel.specs.declared.info.FeatureInfo.{FeatureInfo}
 use Rattle.qvt_metamodel.specs.declared.row.Row.{Row}
 use Rattle.qvt_meta.specs.declared.adding.Numbers.{Numbers}
 use Rattle.qvt_metas.specs.Metamodels.{Metamodels, among_features, features_of, nowhere_feature}
-use Rattle.qvt_metamodel.specs.Kept.{IsKept}
+use Rattle.qvt_metas.specs.Kept.{IsKept}
 use Rattle.qvt_metamodel.specs.declared.declared.MetaData.{MetaData}
 use Rattle.qvt_metamodel.specs.Checked.{IsChecked}
 use Rattle.qvt_metamodel.specs.MetaData.{enum_names}
 use Rattle.qvt_meta.specs.Numbers.{AreNumbers}
-use Rattle.qvt_metamodel.specs.Added.{numbered, first_begin}
+use Rattle.qvt_metas.specs.Added.{numbered, first_begin}
 use Rattle.qvt_metas.specs.Tables.{of_classes, AreTables}
 use Rattle.qvt_json.specs.Repeated.{repeated}
 use Rattle.qvt_metamodel.specs.Checks.{repeated_feature}

@@ -20,15 +20,15 @@ use Rattle.qvt_metamodel.specs.declared.declared.DeclaredClass.{DeclaredClass}
 use Rattle.qvt_metas.specs.Metamodels.{Metamodels, class_at, feature_at, shape_of, is_opposite, is_feature_number, features_of, features_in, each_once, has_feature, among_features, nowhere_class, nowhere_feature, is_single, is_one, is_containment, is_element}
 use Rattle.qvt_metas.specs.Descends.{is_superclass, Inherits, reaches, descends, is_class_kind, is_class_type}
 use Rattle.qvt_metas.specs.Named.{metamodel_at, enumeration_at, literal_at, nowhere_enumeration, class_named, feature_named, enumeration_named, literal_named}
-use Rattle.qvt_metamodel.specs.WellFormed.{IsWellFormed, IsRegular, IsLiveKind}
-use Rattle.qvt_metamodel.specs.Kept.{AreRanks}
+use Rattle.qvt_metas.specs.WellFormed.{IsWellFormed, IsRegular, IsLiveKind}
+use Rattle.qvt_metas.specs.Kept.{AreRanks}
 use Rattle.qvt_metamodel.specs.declared.declared.MetaData.{MetaData}
 use Rattle.qvt_metamodel.specs.MetaData.{enum_names, class_names, feature_names}
 use Rattle.qvt_json.specs.Repeated.{repeated}
 use Rattle.qvt_metamodel.specs.Names.{primitive_names, is_among}
 use Rattle.qvt_metamodel.specs.Checks.{same_feature, repeated_feature, bad_opposite, is_bad_opposite, is_mutual, is_one_at_most, type_features, is_given_name as is_named}
 use Rattle.qvt_metamodel.specs.Checked.{has_text, has_texts, are_texts, IsChecked}
-use Rattle.qvt_metamodel.specs.Added.{declared_at, names_of, feature_count, feature_info, feature_infos, feature_number, numbers_from, class_info, class_infos, numbered, first_begin, HasRoom, kind_of, enum_or_class, nothing_declared, place_in}
+use Rattle.qvt_metas.specs.Added.{declared_at, names_of, feature_count, feature_info, feature_infos, feature_number, numbers_from, class_info, class_infos, numbered, first_begin, HasRoom, kind_of, enum_or_class, nothing_declared, place_in}
 use Rattle.qvt_meta.specs.Numbers.{has_few_literals}
 use Rattle.qvt_metamodel.proofs.Bools.{and_both, and_left, and_right, and_no, ap2, clash, or_cases, or_left, or_right, not_true}
 use Rattle.qvt_meta.proofs.Counts.{count_within}

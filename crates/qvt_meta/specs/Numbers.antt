@@ -9,7 +9,7 @@ use Rattle.qvt_metamodel.specs.declared.declared.MetaData.{MetaData}
 use Rattle.qvt_metamodel.specs.MetaData.{enum_names}
 use Rattle.qvt_metas.specs.Metamodels.{nowhere_feature}
 use Rattle.qvt_meta_names.specs.Named.{number_at}
-use Rattle.qvt_metamodel.specs.Added.{first_begin, names_of, class_infos, feature_infos, HasRoom}
+use Rattle.qvt_metas.specs.Added.{first_begin, names_of, class_infos, feature_infos, HasRoom}
 
 -- the numbers of its literals fit 32 bits
 abbrev pub has_few_literals : EnumInfo → Bool

@@ -5,7 +5,7 @@ use Rattle.std.specs.Str.{bytes_eq}
 use Rattle.qvt_metamodel.specs.declared.declared.DeclaredClass.{DeclaredClass}
 use Rattle.qvt_metamodel.specs.declared.begin.Begin.{Begin}
 use Rattle.qvt_meta.specs.declared.adding.NamePlaces.{NamePlaces}
-use Rattle.qvt_metamodel.specs.Added.{names_of, feature_count, declared_at}
+use Rattle.qvt_metas.specs.Added.{names_of, feature_count, declared_at}
 
 -- how many features stand before those of each of these classes, and before the end, where n stand before the first
 abbrev pub firsts_of : ℕ → List DeclaredClass → List ℕ

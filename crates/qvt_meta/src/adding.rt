@@ -8,7 +8,7 @@ ghost use Rattle.qvt_json.specs.Repeated.{repeated};
 ghost use Rattle.std.specs.List.{list_all};
 ghost use Rattle.qvt_metamodel.specs.Checks.{same_name};
 ghost use Rattle.qvt_meta.specs.Numbers.{has_few_literals, AreNumbers};
-ghost use Rattle.qvt_metamodel.specs.Added.{declared_at, place_in, kind_of, feature_count, feature_number, feature_info, feature_infos, numbers_from, class_info, class_infos, names_of};
+ghost use Rattle.qvt_metas.specs.Added.{declared_at, place_in, kind_of, feature_count, feature_number, feature_info, feature_infos, numbers_from, class_info, class_infos, names_of};
 
 use crate::own_names::own_names;
 use qvt_base::copied::Copied;
@@ -23,11 +23,9 @@ use qvt_meta_names::name_table::NameTable;
 use qvt_metamodel::begin::Begin;
 use qvt_metamodel::copied::copy_of_text;
 use qvt_metamodel::declared::{DeclaredClass, DeclaredFeature, MetaData};
-use qvt_metamodel::info::{
-    ClassInfo, EnumInfo, FeatureInfo, FeatureShape, MetamodelInfo, TypeKind,
-};
-use qvt_metamodel::numbering::numbers_from;
 use qvt_metamodel::room::has_room;
+use qvt_metas::info::{ClassInfo, EnumInfo, FeatureInfo, FeatureShape, MetamodelInfo, TypeKind};
+use qvt_metas::numbering::numbers_from;
 use std::alloc::Global;
 
 /// Where the names of a metamodel that is added are: its enumerations, its classes, how many features

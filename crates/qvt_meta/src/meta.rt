@@ -1,6 +1,6 @@
 ghost use Rattle.std.specs.Prelude.{◌≡◌, ◌≢◌, ◌<◌, ◌^◌, [], None, Some, length, IfOk, IfErr, OnOk, IsTrue, option_map};
 ghost use Rattle.qvt_json.specs.Steps.{GivesStated};
-ghost use Rattle.qvt_metamodel.specs.Added.{declared_at, first_begin, names_of, class_infos};
+ghost use Rattle.qvt_metas.specs.Added.{declared_at, first_begin, names_of, class_infos};
 ghost use Rattle.qvt_metamodel.specs.Checked.{Passes};
 ghost use Rattle.qvt_metamodel.specs.Checks.{same_name, unknown_type, inheritance_cycle};
 ghost use Rattle.qvt_metamodel.specs.MetaData.{class_names};
@@ -27,8 +27,8 @@ use qvt_meta_read::reading::meta_data;
 use qvt_meta_tables::cycle::first_cycle;
 use qvt_meta_tables::tables::{Tables, tables_of};
 use qvt_metamodel::declared::{DeclaredClass, MetaData};
-use qvt_metamodel::fault::MetaFault;
-use qvt_metamodel::info::ClassInfo;
+use qvt_metas::fault::MetaFault;
+use qvt_metas::info::ClassInfo;
 pub use qvt_metas::meta::Meta;
 use qvt_metas::numbered::Numbered;
 use std::alloc::Global;

@@ -2,7 +2,7 @@
 
 ghost use Rattle.std.specs.Prelude.{◌≡◌, ◌<◌, ◌^◌, ℕ, [], map, length, IsTrue, IfOk, slice_index_or};
 ghost use Rattle.qvt_metas.specs.Metamodels.{among_features, nowhere_feature, features_of};
-ghost use Rattle.qvt_metamodel.specs.Added.{numbered};
+ghost use Rattle.qvt_metas.specs.Added.{numbered};
 ghost use Rattle.qvt_meta_lists.specs.Lists.{all_lists};
 ghost use Rattle.qvt_meta_repeats.specs.Flags.{name_flags};
 ghost use Rattle.qvt_meta.specs.Numbers.{AreNumbers, StandForNames};
@@ -17,7 +17,7 @@ use qvt_meta_lists::lists::FeatureLists;
 use qvt_meta_names::feature_tables::{feature_table, name_numbers};
 use qvt_meta_repeats::repeats::Repeats;
 use qvt_metamodel::declared::MetaData;
-use qvt_metamodel::info::FeatureInfo;
+use qvt_metas::info::FeatureInfo;
 use std::alloc::Global;
 
 /// For each feature the number of the first one that has its name.

@@ -16,9 +16,9 @@ use Rattle.qvt_metamodel.specs.declared.row.Row.{Row}
 use Rattle.qvt_metas.specs.Metamodels.{Metamodels, features_of, nowhere_class}
 use Rattle.qvt_metas.specs.Descends.{is_superclass}
 use Rattle.qvt_metas.specs.Named.{metamodel_at, nowhere_metamodel}
-use Rattle.qvt_metamodel.specs.WellFormed.{IsWellFormed, IsLiveKind}
+use Rattle.qvt_metas.specs.WellFormed.{IsWellFormed, IsLiveKind}
 use Rattle.qvt_metamodel.specs.Checks.{repeated_feature}
-use Rattle.qvt_metamodel.specs.Extended.{extended, unnamed, element_class, given_classes, given_count, IsGivenNumber, IsLoose, AreGiven}
+use Rattle.qvt_metas.specs.Extended.{extended, unnamed, element_class, given_classes, given_count, IsGivenNumber, IsLoose, AreGiven}
 use Rattle.qvt_metamodel.proofs.Ancestors.{path}
 use Rattle.qvt_metamodel.proofs.Bools.{clash, and_both, and_left, and_right}
 use Rattle.qvt_metamodel.proofs.Halves.{Half, old, new, half, old-at, new-at}

@@ -13,7 +13,7 @@ use Rattle.qvt_relation.specs.Closure.{Closure}
 use Rattle.qvt_metas.specs.Metamodels.{Metamodels, nowhere_feature}
 use Rattle.qvt_metamodel.specs.Checks.{repeated_feature}
 use Rattle.qvt_metas.specs.Named.{metamodel_at}
-use Rattle.qvt_metamodel.specs.Extended.{given_count, extended, is_given_superclass}
+use Rattle.qvt_metas.specs.Extended.{given_count, extended, is_given_superclass}
 
 -- the numbers fit 32 bits
 abbrev pub fits : ℕ → Bool

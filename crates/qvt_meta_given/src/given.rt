@@ -3,7 +3,7 @@
 ghost use Rattle.std.specs.Prelude.{◌≡◌, ◌<◌, ◌+◌, ◌++◌, ◌∷◌, ℕ, None, length, IfOk, IsTrue, IsFalse};
 ghost use Rattle.std.specs.List.{AllByRecursion};
 ghost use Rattle.qvt_metamodel.specs.Checks.{repeated_feature};
-ghost use Rattle.qvt_metamodel.specs.Extended.{extended, element_class, given_classes, given_features, AreGiven, HasRoomFor};
+ghost use Rattle.qvt_metas.specs.Extended.{extended, element_class, given_classes, given_features, AreGiven, HasRoomFor};
 ghost use Rattle.qvt_meta_given.specs.Given.{has_room_for, are_live};
 
 use crate::live::are_live;
@@ -14,9 +14,9 @@ use qvt_base::list_fault::ListFault;
 use qvt_meta_tables::cycle::first_cycle;
 use qvt_meta_tables::tables::tables_of;
 use qvt_metamodel::copied::joined;
-use qvt_metamodel::given::{ClassData, ClassDataList};
-use qvt_metamodel::info::{ClassInfo, FeatureInfo};
 use qvt_metas::extending::{given_classes, given_features};
+use qvt_metas::given::{ClassData, ClassDataList};
+use qvt_metas::info::{ClassInfo, FeatureInfo};
 use qvt_metas::metas::Metas;
 use std::alloc::Global;
 

@@ -5,8 +5,8 @@ ghost use Rattle.std.specs.List.{list_all};
 ghost use Rattle.qvt_meta_given.specs.Given.{is_given_number, has_given_supers, is_live_kind, has_live_kind, has_live_kinds, are_live};
 
 use qvt_base::numbers::ClassNo;
-use qvt_metamodel::given::{ClassData, FeatureData};
-use qvt_metamodel::info::TypeKind;
+use qvt_metas::given::{ClassData, FeatureData};
+use qvt_metas::info::TypeKind;
 use qvt_metas::metas::Metas;
 
 /// Whether the number is that of a given class.

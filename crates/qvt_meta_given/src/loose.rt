@@ -3,7 +3,7 @@
 ghost use Rattle.std.specs.Prelude.{◌≡◌};
 ghost use Rattle.qvt_meta_given.specs.Given.{is_loose, has_loose_features, are_loose};
 
-use qvt_metamodel::given::{ClassData, FeatureData};
+use qvt_metas::given::{ClassData, FeatureData};
 
 fn is_loose(feature: &FeatureData) -> bool
     ensures { result ≡ is_loose feature.now }

@@ -15,7 +15,7 @@ use qvt_meta_lists::lists::FeatureLists;
 use qvt_meta_names::feature_tables::name_numbers;
 use qvt_meta_names::name_table::NameTable;
 use qvt_meta_repeats::repeats::Repeats;
-use qvt_metamodel::info::FeatureInfo;
+use qvt_metas::info::FeatureInfo;
 use std::alloc::Global;
 
 /// Puts a name last, unless it is there.

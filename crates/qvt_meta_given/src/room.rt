@@ -1,10 +1,10 @@
 //! Whether the numbers fit 32 bits when classes come after metamodels.
 
 ghost use Rattle.std.specs.Prelude.{◌≡◌, ◌+◌, ◌<◌, ◌^◌};
-ghost use Rattle.qvt_metamodel.specs.Extended.{given_count};
+ghost use Rattle.qvt_metas.specs.Extended.{given_count};
 ghost use Rattle.qvt_meta_given.specs.Given.{fits, has_room_for};
 
-use qvt_metamodel::given::ClassData;
+use qvt_metas::given::ClassData;
 use qvt_metas::metas::Metas;
 
 /// Whether the features of the classes, numbered from this one on, have numbers of 32 bits.

@@ -245,6 +245,7 @@ impl FeatureLists {
     }
 
     /// Puts another list at a place, if there is such a place. It begins with this front, where there is one.
+    /// A refused call changes no list.
     fn put_begun(
         &mut self,
         class: usize,
@@ -252,7 +253,8 @@ impl FeatureLists {
         begin: Option<Front>,
     ) -> Result<(), ListFault>
         requires { IfSome begin (λ f. IsLineFront self.old.lines f × HasFront list f (front_of self.old.lines f)) }
-        ensures { OnOk result (all_lists self.new ≡ slice_set (all_lists self.old) class list) }
+        ensures ok { OnOk result (all_lists self.new ≡ slice_set (all_lists self.old) class list) }
+        ensures err { OnErr result (all_lists self.new ≡ all_lists self.old) }
     {
         take_room(&mut self.room, list.len())?;
         let front = Front {
@@ -268,14 +270,16 @@ impl FeatureLists {
         Ok(())
     }
 
-    /// Puts another list at a place, if there is such a place.
+    /// Puts another list at a place, if there is such a place. A refused call changes no list.
     pub fn put(&mut self, class: usize, list: FeatureNoList) -> Result<(), ListFault>
-        ensures { OnOk result (all_lists self.new ≡ slice_set (all_lists self.old) class list) }
+        ensures ok { OnOk result (all_lists self.new ≡ slice_set (all_lists self.old) class list) }
+        ensures err { OnErr result (all_lists self.new ≡ all_lists self.old) }
     {
         self.put_begun(class, list, None)
     }
 
-    /// Puts a list at a place that is the whole line of this front and then these features.
+    /// Puts a list at a place that is the whole line of this front and then these features. A refused
+    /// call changes no list.
     fn put_after(
         &mut self,
         class: usize,
@@ -284,7 +288,8 @@ impl FeatureLists {
     ) -> Result<(), ListFault>
         requires front { IsLineFront self.old.lines front }
         requires whole { front.count ≡ length (slice_index_or self.old.lines front.line []) }
-        ensures { OnOk result (all_lists self.new ≡ slice_set (all_lists self.old) class (front_of self.old.lines front ++ features.now)) }
+        ensures ok { OnOk result (all_lists self.new ≡ slice_set (all_lists self.old) class (front_of self.old.lines front ++ features.now)) }
+        ensures err { OnErr result (all_lists self.new ≡ all_lists self.old) }
     {
         let count = extend_line(&mut self.lines, front.line, features)?;
         let longer = Front {
@@ -295,7 +300,8 @@ impl FeatureLists {
         Ok(())
     }
 
-    /// Puts the list of another class and then these features at a place, if there is such a place.
+    /// Puts the list of another class and then these features at a place, if there is such a place. A
+    /// refused call changes no list.
     pub fn go_on(
         &mut self,
         alloc: Global,
@@ -303,7 +309,8 @@ impl FeatureLists {
         superclass: usize,
         own: &[FeatureNo],
     ) -> Result<(), ListFault>
-        ensures { OnOk result (all_lists self.new ≡ slice_set (all_lists self.old) class (slice_index_or (all_lists self.old) superclass [] ++ own.now)) }
+        ensures ok { OnOk result (all_lists self.new ≡ slice_set (all_lists self.old) class (slice_index_or (all_lists self.old) superclass [] ++ own.now)) }
+        ensures err { OnErr result (all_lists self.new ≡ all_lists self.old) }
     {
         if let Some(front) = self.front(superclass) {
             if own.is_empty() {

@@ -9,7 +9,7 @@ use qvt_base::text::Text;
 use std::alloc::Global;
 
 /// Puts a name last, unless it is there.
-pub fn add_text(
+pub(crate) fn add_text(
     alloc: Global,
     table: &mut NameTable,
     text: &Text,

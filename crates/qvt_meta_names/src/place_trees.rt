@@ -57,7 +57,7 @@ fn push_node(words: &mut Seq<u32>, node: u32, digit: u32, word: u32) -> Result<u
 
 /// Makes a tree that has this word for the number, and gives its root. It takes one node for each
 /// level and shares the others with the tree before it, which stays as it is.
-pub fn put_word(
+pub(crate) fn put_word(
     words: &mut Seq<u32>,
     levels: u32,
     root: u32,

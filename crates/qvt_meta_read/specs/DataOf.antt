@@ -4,14 +4,15 @@ use Rattle.serde_json.specs.Data.{Data, Items}
 use Rattle.serde_json.specs.Find.{get}
 use Rattle.qvt_json.specs.Json.{text_at, text_or, as_count, count_under, flag_at, items_or}
 pub use Rattle.qvt_json.specs.Json.{map_items, text_of}
+use Rattle.qvt_meta_read.specs.MetaForm.{most_bound}
 use Rattle.qvt_metamodel.specs.declared.info.EnumInfo.{EnumInfo}
 use Rattle.qvt_metamodel.specs.declared.declared.DeclaredFeature.{DeclaredFeature}
 use Rattle.qvt_metamodel.specs.declared.declared.DeclaredClass.{DeclaredClass}
 use Rattle.qvt_metamodel.specs.declared.declared.MetaData.{MetaData}
 
--- bounds are at most 1,000,000, as their form asks
+-- bounds are at most most_bound, as their form asks
 abbrev pub bound : ℕ → ℕ
-bound n = min n 1000000
+bound n = min n most_bound
 
 abbrev pub flag_or : List ℕ → Bool → Data → Bool
 flag_or key b d = unwrap_or (flag_at key d) b

@@ -1,5 +1,5 @@
 -- The form of a metamodel's file: which keys its objects have, and what stands at each. Keys stand in byte order.
-use Rattle.std.specs.Prelude.{[], ◌∷◌, Bool, ◌||◌, codes}
+use Rattle.std.specs.Prelude.{ℕ, [], ◌∷◌, Bool, ◌||◌, codes}
 use Rattle.std.specs.Str.{bytes_eq}
 use Rattle.serde_json.specs.Data.{Data}
 use Rattle.qvt_base.specs.Names.{is_name}
@@ -10,13 +10,17 @@ use Rattle.qvt_json.specs.Shape.{Form, leaf, form_of_list, form_of_object, requi
 abbrev pub name_form : Form
 name_form = leaf (is_text_of is_name)
 
--- a whole number from 1 to 1,000,000, or `*` for no bound
+-- how large a bound of a feature is at most
+abbrev pub most_bound : ℕ
+most_bound = 1000000
+
+-- a whole number from 1 to most_bound, or `*` for no bound
 abbrev pub is_upper : Data → Bool
-is_upper d = is_count 1 1000000 d || is_text_of (bytes_eq (codes "*")) d
+is_upper d = is_count 1 most_bound d || is_text_of (bytes_eq (codes "*")) d
 
 unfoldable pub feature_form : Form
 feature_form = form_of_object (
-    optional (codes "containment") (leaf is_flag) ∷ optional (codes "lower") (leaf (is_count 0 1000000)) ∷ required (codes "name") name_form
+    optional (codes "containment") (leaf is_flag) ∷ optional (codes "lower") (leaf (is_count 0 most_bound)) ∷ required (codes "name") name_form
     ∷ optional (codes "opposite") name_form ∷ optional (codes "ordered") (leaf is_flag) ∷ required (codes "type") name_form
     ∷ optional (codes "unique") (leaf is_flag) ∷ optional (codes "upper") (leaf is_upper) ∷ [])
 

@@ -14,6 +14,9 @@ use qvt_json::value::has_only;
 use serde_json::Value;
 use std::alloc::Global;
 
+/// How large a bound of a feature is at most.
+pub(crate) const MOST_BOUND: u64 = 1_000_000;
+
 /// A name.
 pub struct MetaNameForm {}
 
@@ -35,7 +38,7 @@ fn is_upper(value: &Value) -> bool
     ensures { result ≡ is_upper (view value.now) }
 {
     match value.as_u64() {
-        Some(number) => 1 <= number && number <= 1_000_000,
+        Some(number) => 1 <= number && number <= MOST_BOUND,
         None => match value.as_str() {
             Some(text) => "*" == text,
             None => false,
@@ -43,7 +46,7 @@ fn is_upper(value: &Value) -> bool
     }
 }
 
-/// An upper bound: a whole number from 1 to 1,000,000, or `*`.
+/// An upper bound: a whole number from 1 to `MOST_BOUND`, or `*`.
 pub struct UpperForm {}
 
 impl Form for UpperForm {
@@ -89,7 +92,7 @@ impl Form for FeatureForm {
             "lower",
             &CountForm {
                 low: 0,
-                high: 1_000_000,
+                high: MOST_BOUND,
             },
         )? {
             return Ok(Some(path));

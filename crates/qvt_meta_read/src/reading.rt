@@ -6,6 +6,7 @@ ghost use Rattle.serde_json.specs.View.{view, items_view};
 ghost use Rattle.qvt_json.specs.Json.{text_at, items_or};
 ghost use Rattle.qvt_meta_read.specs.DataOf.{map_items, text_of, bound, flag_or, upper_of, feature_data, class_data, enum_data, meta_data};
 
+use crate::forms::MOST_BOUND;
 use qvt_base::list_fault::ListFault;
 use qvt_base::lists::NameList;
 use qvt_base::seq::Seq;
@@ -16,11 +17,11 @@ use qvt_metamodel::info::EnumInfo;
 use serde_json::Value;
 use std::alloc::Global;
 
-/// A bound, of at most 1,000,000.
+/// A bound, of at most `MOST_BOUND`.
 fn bound(number: u64) -> u32
     ensures { result ≡ bound number }
 {
-    number.min(1_000_000) as u32
+    number.min(MOST_BOUND) as u32
 }
 
 fn flag_or(value: &Value, key: &str, default: bool) -> bool

@@ -21,8 +21,8 @@ abbrev pub number_flags : List ℕ → List FeatureNo → List Bool
 number_flags numbers list = repeat_flags (same_number numbers) [] list
 
 -- the set has the numbers of the names of these features, and no others
-abbrev pub HasNames : List ℕ → List FeatureNo → List ℕ × ℕ → Type 0
-HasNames numbers features set = (n : ℕ) → has_number set n ≡ list_any (λ f. number_at numbers f == n) features
+abbrev pub NamesAre : List ℕ → List FeatureNo → List ℕ × ℕ → Type 0
+NamesAre numbers features set = (n : ℕ) → has_number set n ≡ list_any (λ f. number_at numbers f == n) features
 
 -- the flags of a list that is the first ones of a line
 abbrev pub front_flags : List (List Bool) → Front → List Bool

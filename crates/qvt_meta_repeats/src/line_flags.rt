@@ -2,7 +2,7 @@ ghost use Rattle.std.specs.Prelude.{◌≡◌, ◌<◌, ◌≤◌, ◌||◌, ◌
 ghost use Rattle.qvt_meta_lists.specs.Lists.{front_of, IsLineFront};
 ghost use Rattle.qvt_meta_names.specs.Named.{number_at};
 ghost use Rattle.qvt_meta_tables.specs.NumberSets.{has_number};
-ghost use Rattle.qvt_meta_repeats.specs.Flags.{number_flags, HasNames};
+ghost use Rattle.qvt_meta_repeats.specs.Flags.{number_flags, NamesAre};
 
 use qvt_base::list_fault::ListFault;
 use qvt_base::numbers::FeatureNo;
@@ -109,7 +109,7 @@ struct FrontNames {
 impl FrontNames {
     /// Those of no features. It takes no memory.
     fn none(alloc: Global) -> FrontNames
-        ensures { (numbers : List ℕ) (lines : List (List FeatureNo)) → HasNames numbers (front_of lines result.front) result.names }
+        ensures { (numbers : List ℕ) (lines : List (List FeatureNo)) → NamesAre numbers (front_of lines result.front) result.names }
     {
         FrontNames {
             front: Front { line: 0, count: 0 },
@@ -121,7 +121,7 @@ impl FrontNames {
     fn leave_first(&mut self, front: Front)
         ensures line { self.new.front.line ≡ front.line }
         ensures count { self.new.front.count ≤ front.count }
-        ensures names { (numbers : List ℕ) (lines : List (List FeatureNo)) → HasNames numbers (front_of lines self.old.front) self.old.names → HasNames numbers (front_of lines self.new.front) self.new.names }
+        ensures names { (numbers : List ℕ) (lines : List (List FeatureNo)) → NamesAre numbers (front_of lines self.old.front) self.old.names → NamesAre numbers (front_of lines self.new.front) self.new.names }
     {
         if self.front.line != front.line || self.front.count > front.count {
             self.names.clear();
@@ -136,9 +136,9 @@ impl FrontNames {
     /// more of the same line.
     fn hold(&mut self, numbers: &[u32], lists: &FeatureLists, front: Front) -> Result<(), ListFault>
         requires front { IsLineFront lists.now.lines front }
-        requires names { HasNames numbers.now (front_of lists.now.lines self.old.front) self.old.names }
+        requires names { NamesAre numbers.now (front_of lists.now.lines self.old.front) self.old.names }
         ensures front { OnOk result (self.new.front ≡ front) }
-        ensures names { OnOk result (HasNames numbers.now (front_of lists.now.lines front) self.new.names) }
+        ensures names { OnOk result (NamesAre numbers.now (front_of lists.now.lines front) self.new.names) }
     {
         self.leave_first(front);
         let line = lists.lines()[front.line].as_slice();
@@ -171,7 +171,7 @@ fn add_flags(
     flags: &mut LineFlags,
 ) -> Result<(), ListFault>
     requires count { count ≤ length line.now }
-    requires known { HasNames numbers.now (take count line.now) known.now }
+    requires known { NamesAre numbers.now (take count line.now) known.now }
     requires flags { flags.old ≡ take count (number_flags numbers.now line.now) }
     ensures { OnOk result (flags.new ≡ number_flags numbers.now line.now) }
 {
@@ -197,9 +197,9 @@ fn flags_of(
 ) -> Result<LineFlags, ListFault>
     requires at { at < length lists.now.lines }
     requires all { all.now ≡ map (number_flags numbers.now) (take at lists.now.lines) }
-    requires held { HasNames numbers.now (front_of lists.now.lines held.old.front) held.old.names }
+    requires held { NamesAre numbers.now (front_of lists.now.lines held.old.front) held.old.names }
     ensures flags { IfOk result (λ l. l ≡ number_flags numbers.now (slice_index_or lists.now.lines at [])) }
-    ensures held { OnOk result (HasNames numbers.now (front_of lists.now.lines held.new.front) held.new.names) }
+    ensures held { OnOk result (NamesAre numbers.now (front_of lists.now.lines held.new.front) held.new.names) }
 {
     let line = lists.lines()[at].as_slice();
     let Some(front) = lists.begin(at) else {

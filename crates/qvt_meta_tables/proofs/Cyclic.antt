@@ -1,5 +1,5 @@
 -- Classes that are above themselves, as numbers that lead back to themselves.
-use Rattle.std.proofs.Common.{◌≡◌, ◌∙◌, ℕ, zero, suc, ◌+◌, ◌<◌, ◌≤◌, ◌-◌, List, length, map, get_or, Bool, true, false, refl, ap, sym, arith, ◌==◌, Option, Some, None}
+use Rattle.std.proofs.Common.{◌≡◌, ◌∙◌, ℕ, zero, suc, ◌+◌, ◌<◌, ◌-◌, List, length, map, get_or, Bool, true, false, refl, ap, sym, arith, ◌==◌, Option, Some, None}
 use Rattle.std.specs.List.{list_any}
 use Rattle.std.specs.Prelude.{if◌then◌else◌}
 use Rattle.std.proofs.lemmas.List.{length-map}
@@ -37,9 +37,6 @@ cycle_found ks c n all l there e =
     sym (ap (λ b. if b then Some c else cycle_from ks (suc c) (n - (c + 1))) there)
     ∙ ap (cycle_from ks c) (let more : suc (n - (c + 1)) ≡ n - c = omega (arith, l) in more)
     ∙ e
-
-pub cycle_none : (ks : List ClassInfo) (c n : ℕ) (all : Option ℕ) → n ≤ c → cycle_from ks c (n - c) ≡ all → None ≡ all
-cycle_none ks c n all l e = ap (cycle_from ks c) (let none : 0 ≡ n - c = omega (arith, l) in none) ∙ e
 
 none_at : (ks : List ClassInfo) (c n : ℕ) → cycle_from ks c n ≡ None → (i : ℕ) → i < n → is_own_ancestor ks (c + i) ≡ false
 none_at ks c zero e i l = absurd (omega arith)

@@ -14,18 +14,7 @@ use Rattle.qvt_metamodel.proofs.Bools.{not_true, clash, or_cases, or_left, or_ri
 use Rattle.qvt_metamodel.proofs.Lists.{once-append}
 use Rattle.qvt_metamodel.proofs.Owners.{among-append, once-from}
 use Rattle.qvt_meta_tables.specs.NumberSets.{has_number}
-use Rattle.qvt_meta_tables.specs.Placed.{IsOnce, AreIn, AreNew, AreNoted, HasJust}
-
--- features behind the first ones, by two sets of their numbers
-
-pub seen_behind : (first later : List ℕ × ℕ) (gs list : List FeatureNo) (n : ℕ) → HasJust first gs → HasJust later list → among_features n (gs ++ list) ≡ (has_number first n || has_number later n)
-seen_behind first later gs list n a b = among-append n gs list ∙ (λ j. sym (a n) j || sym (b n) j)
-
-pub there_behind : (g : FeatureNo) (gs list : List FeatureNo) → among_features g.0 (gs ++ list) ≡ true → list ≡ list ++ each_once (gs ++ list) (g ∷ [])
-there_behind g gs list h = sym (ap (λ t. list ++ (if t then [] else g ∷ [])) h ∙ append-nil list)
-
-pub new_behind : (g : FeatureNo) (gs list : List FeatureNo) → among_features g.0 (gs ++ list) ≡ false → list ++ g ∷ [] ≡ list ++ each_once (gs ++ list) (g ∷ [])
-new_behind g gs list h = sym (ap (λ t. list ++ (if t then [] else g ∷ [])) h)
+use Rattle.qvt_meta_tables.specs.Placed.{IsOnce, AreIn, AreNew, AreNoted}
 
 -- a first part of those that are left
 pub behind_part : (gs all list next xs ys zs : List FeatureNo) → list ++ each_once (gs ++ list) xs ≡ all → xs ≡ ys ++ zs → next ≡ list ++ each_once (gs ++ list) ys

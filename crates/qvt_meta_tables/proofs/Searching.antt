@@ -58,10 +58,6 @@ itself v = one_any (waits (visited_class v)) v (eq-eqb (visited_class v) (visite
 waiting_enters : (d : ℕ) (ss : List ClassNo) → is_waiting d (enters ss) ≡ list_any (λ s. s.0 == d) ss
 waiting_enters d ss = list_any-map (waits d) (λ (s : ClassNo). Enter s.0) ss
 
-none_opened : (d : ℕ) (ss : List ClassNo) → is_open d (enters ss) ≡ false
-none_opened d [] = refl
-none_opened d (s ∷ ss) = none_opened d ss
-
 opens_append : (vs ws : List Visit) → opens (vs ++ ws) ≡ opens vs + opens ws
 opens_append [] ws = omega arith
 opens_append (Enter c ∷ vs) ws = opens_append vs ws

@@ -246,7 +246,7 @@ fn put_by(
 }
 
 /// Puts the list of a class there, by those of its superclasses and its own features.
-pub fn put_list(
+pub(crate) fn put_list(
     alloc: Global,
     seen: &mut SeenFeatures,
     once: bool,

@@ -1,6 +1,11 @@
 pub use Rattle.qvt_metamodel.specs.Named
 pub use Rattle.qvt_metamodel.specs.Metamodels
 pub use Rattle.qvt_metamodel.specs.Descends
+pub use Rattle.qvt_metamodel.specs.WellFormed
+pub use Rattle.qvt_metamodel.specs.Kept
+pub use Rattle.qvt_metamodel.specs.Stay
+pub use Rattle.qvt_metamodel.specs.Added
+pub use Rattle.qvt_metamodel.specs.Extended
 pub use Rattle.qvt_meta_tables.specs.Tables
 pub use Rattle.qvt_meta_tables.specs.Search
 pub use Rattle.qvt_meta_tables.specs.NumberSets

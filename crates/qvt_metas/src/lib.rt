@@ -9,4 +9,4 @@ pub mod numbered;
 
 pub use qvt_meta_names::name_table;
 pub use qvt_meta_tables::{number_set, order, tables};
-pub use qvt_metamodel::{fault, given, info, numbering};
+pub use qvt_metamodel::{fault, given, info, numbering, row};

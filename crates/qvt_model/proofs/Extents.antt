@@ -21,7 +21,7 @@ use Rattle.qvt_metamodel.specs.declared.info.TypeKind.TheVariants.{Bool as BoolK
 use Rattle.qvt_metas.specs.Metamodels.{Metamodels, feature_at, shape_of, is_one, features_of, has_feature, among_features}
 use Rattle.qvt_metas.specs.Descends.{descends}
 use Rattle.qvt_metas.specs.Named.{metamodel_at, enumeration_at, feature_named}
-use Rattle.qvt_metamodel.specs.WellFormed.{IsWellFormed}
+use Rattle.qvt_metas.specs.WellFormed.{IsWellFormed}
 use Rattle.qvt_repeats.specs.Repeats.{repeats_by}
 use Rattle.qvt_json.specs.Leaves.{is_id}
 use Rattle.qvt_store.specs.Contents.{Instance, Contents, no_instance, class_of, extent_of, extent_at, is_extent, is_live, is_model, is_named, slot_of, members_from, members_of}

@@ -12,7 +12,7 @@ use Rattle.std.proofs.lemmas.Map.Text.{is_eq-slice_cmp}
 use Rattle.qvt_base.specs.declared.numbers.FeatureNo.{FeatureNo}
 use Rattle.qvt_value.specs.declared.value.Value.{Value}
 use Rattle.qvt_metas.specs.Metamodels.{Metamodels, feature_at, features_of, among_features, has_feature}
-use Rattle.qvt_metamodel.specs.WellFormed.{IsWellFormed}
+use Rattle.qvt_metas.specs.WellFormed.{IsWellFormed}
 use Rattle.qvt_relation.proofs.Bools.{or_none, none_left, none_right, clash, refuted}
 use Rattle.qvt_store.specs.Contents.{Contents, Instance, no_instance, list_of, set_list, set_slot, with_new}
 use Rattle.qvt_slots.proofs.Places.{no_lists}

@@ -4,7 +4,7 @@ use Rattle.std.specs.Prelude.{⊤}
 use Rattle.std.specs.List.{AllByRecursion}
 use Rattle.std.proofs.lemmas.Bool.{cases_lt}
 use Rattle.qvt_metas.specs.Metamodels.{Metamodels, class_at, is_opposite}
-use Rattle.qvt_metamodel.specs.WellFormed.{IsWellFormed}
+use Rattle.qvt_metas.specs.WellFormed.{IsWellFormed}
 use Rattle.qvt_store.specs.Slots.{has, OppositesAgree, Inside}
 use Rattle.qvt_store.specs.Contents.{Contents, Instance, slot_in, slot_of, extent_at, with_new}
 use Rattle.qvt_store.specs.Types.{AreTyped}

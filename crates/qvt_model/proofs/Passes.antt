@@ -15,7 +15,7 @@ use Rattle.qvt_metamodel.specs.declared.info.TypeKind.TheVariants.{Bool as BoolK
 use Rattle.qvt_metas.specs.Metamodels.{Metamodels, class_at, feature_at, shape_of, is_single}
 use Rattle.qvt_metas.specs.Descends.{descends}
 use Rattle.qvt_metas.specs.Named.{metamodel_at, class_named, literal_named, literal_at}
-use Rattle.qvt_metamodel.specs.WellFormed.{IsWellFormed}
+use Rattle.qvt_metas.specs.WellFormed.{IsWellFormed}
 use Rattle.qvt_json.specs.Json.{map_items}
 use Rattle.qvt_json.specs.Leaves.{is_id}
 use Rattle.qvt_model.specs.Reading.{id_of, class_read, feature_of, features_known, object_known, distinct_ids, class_at_place, ref_at, ref_of, literal_in, datum_of, one_item, items_read, slot_read, slots_of, object_read, is_dangling, slots_dangling, dangling, model_from, numbered_class}

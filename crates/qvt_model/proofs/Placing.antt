@@ -17,7 +17,7 @@ use Rattle.qvt_store.specs.Contents.{Contents, Instance, no_instance, object_at,
 use Rattle.qvt_store.specs.Types.{is_of_kind, is_of_type, AreTyped, HasCodeType}
 use Rattle.qvt_store.specs.Repeats.{repeats}
 use Rattle.qvt_store.specs.Assign.{exceeds_bound, crosses}
-use Rattle.qvt_slots.specs.Cells.{with_list}
+use Rattle.qvt_store.specs.Cells.{with_list}
 use Rattle.qvt_slots.proofs.Places.{no_lists, list_of-nil}
 use Rattle.qvt_slots.proofs.Lists.{length-map, past_end}
 use Rattle.qvt_slots.proofs.Instances as objects

@@ -13,7 +13,7 @@ use Rattle.qvt_metamodel.specs.declared.info.TypeKind.{TypeKind}
 use Rattle.qvt_metamodel.specs.declared.info.TypeKind.TheVariants.{Bool as BoolKind, Int as IntKind, Str as StrKind, Enum as EnumKind, Class as ClassKind}
 use Rattle.qvt_metas.specs.Metamodels.{Metamodels, class_at, feature_at, shape_of, is_single}
 use Rattle.qvt_metas.specs.Named.{metamodel_at}
-use Rattle.qvt_metamodel.specs.WellFormed.{IsWellFormed}
+use Rattle.qvt_metas.specs.WellFormed.{IsWellFormed}
 use Rattle.qvt_json.specs.Json.{json}
 use Rattle.qvt_json.specs.Plain.{IsInteger, KeysAfter, IsPlain, ItemsPlain, MembersPlain}
 use Rattle.qvt_json.specs.Shape.{items_fault}

@@ -14,7 +14,7 @@ use Rattle.qvt_value.specs.Kept.{put_in}
 use Rattle.qvt_value.proofs.Sorting.{IsLevelWithNone, NoneAreLevel, apart-filter, above, below, put_each, put_each-sorted, still-apart}
 use Rattle.qvt_repeats.specs.Repeats.{repeated_by}
 use Rattle.qvt_metas.specs.Metamodels.{class_at, feature_at, features_of, is_single}
-use Rattle.qvt_metamodel.specs.WellFormed.{IsWellFormed}
+use Rattle.qvt_metas.specs.WellFormed.{IsWellFormed}
 use Rattle.qvt_json.specs.Plain as written
 use Rattle.qvt_json.proofs.Ordered.{some-injective, map-some}
 use Rattle.qvt_store.specs.Contents.{Instance, Contents, no_instance, class_of, is_live, slot_of, members_from, members_of}

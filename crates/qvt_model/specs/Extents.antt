@@ -1,4 +1,4 @@
--- The data of a writable extent of a store: its objects in order, each under an id of its own, with its slots that are not empty.
+-- The data of an extent of a store: its objects in order, each under an id of its own, with its slots that are not empty.
 use Rattle.std.specs.Prelude.{ℕ, suc, ◌++◌, List, [], ◌∷◌, map, filter, position, Option, Some, None, option_map, codes, decimal, ◌==◌}
 use Rattle.std.specs.List.{filter_map}
 use Rattle.std.specs.Ordering.{nat_cmp}
@@ -59,6 +59,6 @@ abbrev pub objects_from : Contents → List ℕ → ℕ → List ℕ → List Ob
 objects_from s xs n [] = []
 objects_from s xs n (y ∷ ys) = object_data_of s xs n y ∷ objects_from s xs (suc n) ys
 
--- the data of a writable extent
+-- the data of an extent
 unfoldable pub data_of : Contents → ℕ → List ObjectData
 data_of s e = objects_from s (numbers (members_of s e)) 1 (numbers (members_of s e))

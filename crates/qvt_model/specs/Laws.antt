@@ -2,7 +2,7 @@
 use Rattle.std.specs.Prelude.{◌≡◌, ◌≢◌, [], ℕ, List, IsTrue, Ok}
 use Rattle.qvt_metas.specs.Metamodels.{Metamodels}
 use Rattle.qvt_metas.specs.Named.{metamodel_at}
-use Rattle.qvt_metamodel.specs.WellFormed.{IsWellFormed}
+use Rattle.qvt_metas.specs.WellFormed.{IsWellFormed}
 use Rattle.qvt_store.specs.Contents.{Contents, extent_at, is_extent, is_model}
 use Rattle.qvt_store.specs.Sound.{Sound}
 use Rattle.qvt_store.specs.Stay.{IsStore}

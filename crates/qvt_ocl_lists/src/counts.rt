@@ -76,7 +76,7 @@ impl<'a> Counts<'a> {
     }
 
     /// Takes the value once, if it is left.
-    pub fn take(&mut self, value: &'a Value) -> Result<bool, ListFault>
+    pub(crate) fn take(&mut self, value: &'a Value) -> Result<bool, ListFault>
         ensures was { IfOk result (λ was. was ≡ nat_lt 0 (left self.old value.now)) }
         ensures less { OnOk result ((x : Value) → left self.new x ≡ (if same x value.now then left self.old x - 1 else left self.old x)) }
     {

@@ -44,7 +44,7 @@ impl<'a> Lookup<'a> {
     }
 
     /// Puts the value among them, and tells whether no equal one was there.
-    pub fn note(&mut self, value: &'a Value) -> Result<bool, ListFault>
+    pub(crate) fn note(&mut self, value: &'a Value) -> Result<bool, ListFault>
         ensures fresh { IfOk result (λ is_new. is_new ≡ not (has self.old value.now)) }
         ensures more { OnOk result ((x : Value) → has self.new x ≡ (has self.old x || same x value.now)) }
     {

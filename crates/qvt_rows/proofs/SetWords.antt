@@ -1,14 +1,14 @@
 -- The words of rows as sets of numbers.
-use Rattle.std.proofs.Common.{◌≡◌, ◌≢◌, ◌∙◌, ℕ, zero, suc, ◌+◌, ◌-◌, ◌*◌, ◌/◌, ◌%◌, ◌^◌, ◌<◌, ◌≤◌, List, [], ◌∷◌, ◌++◌, length, get_or, set, Bool, true, false, refl, ap, sym, subst, arith, ◌==◌, ◌||◌, ◌&&◌, not, inl, inr, min, max, leb, w64}
-use Rattle.std.specs.Prelude.{if◌then◌else◌, bit_and, bit_or}
+use Rattle.std.proofs.Common.{◌≡◌, ◌≢◌, ◌∙◌, ℕ, zero, suc, ◌+◌, ◌-◌, ◌*◌, ◌/◌, ◌%◌, ◌^◌, ◌<◌, ◌≤◌, List, [], ◌∷◌, ◌++◌, length, drop, get_or, set, Bool, true, false, refl, ap, sym, subst, arith, ◌==◌, ◌||◌, ◌&&◌, not, inl, inr, min, max, leb, w64}
+use Rattle.std.specs.Prelude.{if◌then◌else◌, nat_lt, bit_and, bit_or}
 use Rattle.std.specs.Int.{bit_at, bit_not, trailing_zeros}
-use Rattle.std.proofs.lemmas.List.{get_or_past, get_or-set_same, get_or-set_other, length-set}
-use Rattle.std.proofs.lemmas.Bool.{eqb-true, eq-eqb, le-leb, lt-leb, cases_eq, cases_lt, and_parts, not-true}
+use Rattle.std.proofs.lemmas.List.{get_or_past, get_or_append_left, get_or-append_right, get_or-drop, get_or-set_same, get_or-set_other, length-set}
+use Rattle.std.proofs.lemmas.Bool.{eqb-true, eq-eqb, le-leb, lt-leb, lt-ltb, le-ltb, cases_eq, cases_lt, and_parts, not-true}
 use Rattle.std.proofs.lemmas.Nat.{or_comm}
 use Rattle.std.proofs.lemmas.Nat.Bits.{bit_at-lt, bit_at-zero, bit_at_or, bit_at_and, bit_at_not, bit_at-trailing_zeros}
 use Rattle.qvt_metamodel.specs.declared.row.Row.{Row}
 use Rattle.qvt_metamodel.specs.Kept.{word_of, is_bit, is_marked, no_row}
-use Rattle.qvt_rows.specs.Sets.{Overlap, IsSubset}
+use Rattle.qvt_rows.specs.Sets.{Overlap, IsSubset, IsLengthened, ArePut}
 use Rattle.qvt_metamodel.proofs.Bools.{ap2, clash}
 use Rattle.qvt_metamodel.proofs.Rows.{no_bit, no_mark}
 use Rattle.qvt_meta_tables.proofs.Words.{joined_word, joined_words, joined_marks}
@@ -137,10 +137,54 @@ zero_behind [] (suc k) = refl
 zero_behind (w ∷ ws) zero = refl
 zero_behind (w ∷ ws) (suc k) = zero_behind ws k
 
-pub no_more_marks : (r : Row) (words : List ℕ) → words ≡ r.words ++ 0 ∷ [] → (d : ℕ) → is_marked (record { start = r.start; skipped = r.skipped; words = words }) d ≡ is_marked r d
-no_more_marks r words are d =
-    ap (λ w. leb r.start d && is_bit w ((d - r.start) % 64))
-    (ap (λ w. if leb r.skipped ((d - r.start) / 64) then w else 0) (ap (λ ws. get_or ws ((d - r.start) / 64 - r.skipped) 0) are ∙ zero_behind r.words ((d - r.start) / 64 - r.skipped)))
+pub no_more_words : (r : Row) (words : List ℕ) → words ≡ r.words ++ 0 ∷ [] → (n : ℕ) → word_of (record { start = r.start; skipped = r.skipped; words = words }) n ≡ word_of r n
+no_more_words r words are n = ap (λ w. if leb r.skipped n then w else 0) (ap (λ ws. get_or ws (n - r.skipped) 0) are ∙ zero_behind r.words (n - r.skipped))
+
+-- rows with the same words have the same marks
+pub same_marks : (one other : Row) → one.start ≡ 0 → other.start ≡ 0 → ((n : ℕ) → word_of one n ≡ word_of other n) → (d : ℕ) → is_marked one d ≡ is_marked other d
+same_marks one other start also same d = marked one start d ∙ ap (λ w. is_bit w (d % 64)) (same (d / 64)) ∙ sym (marked other also d)
+
+-- a row that reaches to a place has the words of one, and behind these those of another from that place on
+module _ (one row other : Row) (words : List ℕ) (end : ℕ) (first : row.skipped ≡ one.skipped) (reach : row.skipped + length row.words ≡ end)
+    (had : one.skipped + length one.words ≤ end) (most : end ≤ max (one.skipped + length one.words) other.skipped) (from_there : other.skipped ≤ end)
+    (same : (n : ℕ) → word_of row n ≡ word_of one n) (are : words ≡ row.words ++ drop (end - other.skipped) other.words) where
+  abbrev others : List ℕ
+  others = drop (end - other.skipped) other.words
+
+  abbrev longer : Row
+  longer = record { start = row.start; skipped = row.skipped; words = words }
+
+  in_front : (n : ℕ) → n < end → word_of longer n ≡ word_of row n
+  in_front n l = ap (λ ws. if leb row.skipped n then get_or ws (n - row.skipped) 0 else 0) are ∙ elim (cases_lt n row.skipped) [
+    | inl k ↦ ap (λ b. if b then get_or (row.words ++ others) (n - row.skipped) 0 else 0) (lt-leb row.skipped n k) ∙ sym (no_word_before row n k)
+    | inr k ↦ ap (λ w. if leb row.skipped n then w else 0) (get_or_append_left row.words others 0 (n - row.skipped) (omega (arith, l, k, reach)))
+  ]
+
+  behind : (n : ℕ) → end ≤ n → word_of longer n ≡ word_of other n
+  behind n l =
+      ap (λ ws. if leb row.skipped n then get_or ws (n - row.skipped) 0 else 0) are
+      ∙ ap (λ b. if b then get_or (row.words ++ others) (n - row.skipped) 0 else 0) (le-leb row.skipped n (omega (arith, l, reach)))
+      ∙ get_or-append_right row.words others (length row.words) (n - row.skipped) 0 refl (omega (arith, l, reach))
+      ∙ get_or-drop (end - other.skipped) other.words (n - row.skipped - length row.words) 0
+      ∙ ap (λ k. get_or other.words k 0) (let at : (end - other.skipped) + (n - row.skipped - length row.words) ≡ n - other.skipped = omega (arith, l, reach, from_there) in at)
+      ∙ sym (ap (λ b. if b then get_or other.words (n - other.skipped) 0 else 0) (le-leb other.skipped n (omega (arith, l, from_there))))
+
+  pub lengthened : (n : ℕ) → word_of (record { start = row.start; skipped = row.skipped; words = words }) n ≡ (if nat_lt n (one.skipped + length one.words) then word_of one n else word_of other n)
+  lengthened n = elim (cases_lt n (one.skipped + length one.words)) [
+    | inl k ↦ in_front n (omega (arith, k, had)) ∙ same n ∙ sym (ap (λ b. if b then word_of one n else word_of other n) (lt-ltb n (one.skipped + length one.words) k))
+    | inr k ↦ elim (cases_lt n end) [
+      | inl l ↦ in_front n l ∙ same n ∙ no_word_behind one n k ∙ sym (no_word_before other n (omega (arith, l, k, most)))
+      | inr l ↦ behind n l
+    ] ∙ sym (ap (λ b. if b then word_of one n else word_of other n) (le-ltb n (one.skipped + length one.words) k))
+  ]
+
+-- a row that ends no later than one
+pub not_lengthened : (one other : Row) → other.skipped + length other.words ≤ one.skipped + length one.words
+    → (n : ℕ) → word_of one n ≡ (if nat_lt n (one.skipped + length one.words) then word_of one n else word_of other n)
+not_lengthened one other short n = elim (cases_lt n (one.skipped + length one.words)) [
+  | inl k ↦ sym (ap (λ b. if b then word_of one n else word_of other n) (lt-ltb n (one.skipped + length one.words) k))
+  | inr k ↦ no_word_behind one n k ∙ sym (no_word_behind other n (omega (arith, k, short))) ∙ sym (ap (λ b. if b then word_of one n else word_of other n) (le-ltb n (one.skipped + length one.words) k))
+]
 
 -- another word at a place
 module _ (r : Row) (p w : ℕ) (low : r.skipped ≤ p) (high : p < r.skipped + length r.words) where
@@ -190,16 +234,37 @@ united_next one other row words p low high are had = subst (λ ws. UnitedBefore 
   rest = λ n l. word_elsewhere row p (bit_or (word_of row p) (word_of other p)) low high n (λ same. absurd (omega (arith, same, l))) ∙ had.rest n (omega (arith, l));
 })
 
-pub united_all : (one other row : Row) (p : ℕ) → one.start ≡ 0 → other.start ≡ 0 → other.skipped + length other.words ≤ p → UnitedBefore one other row p
+pub put_all : (one other row : Row) (p end : ℕ) → min end (other.skipped + length other.words) ≤ p → p ≤ max other.skipped end → UnitedBefore one other row p
+    → (n : ℕ) → word_of row n ≡ (if nat_lt n end then bit_or (word_of one n) (word_of other n) else word_of one n)
+put_all one other row p end past most had n = elim (cases_lt n p) [
+  | inl l ↦ had.done n l ∙ elim (cases_lt n end) [
+    | inl k ↦ sym (ap (λ b. if b then bit_or (word_of one n) (word_of other n) else word_of one n) (lt-ltb n end k))
+    | inr k ↦ ap (bit_or (word_of one n)) (no_word_before other n (omega (arith, l, k, most))) ∙ or_comm (word_of one n) 0 ∙ sym (ap (λ b. if b then bit_or (word_of one n) (word_of other n) else word_of one n) (le-ltb n end k))
+  ]
+  | inr l ↦ had.rest n l ∙ elim (cases_lt n end) [
+    | inl k ↦ sym (ap (bit_or (word_of one n)) (no_word_behind other n (omega (arith, l, k, past))) ∙ or_comm (word_of one n) 0) ∙ sym (ap (λ b. if b then bit_or (word_of one n) (word_of other n) else word_of one n) (lt-ltb n end k))
+    | inr k ↦ sym (ap (λ b. if b then bit_or (word_of one n) (word_of other n) else word_of one n) (le-ltb n end k))
+  ]
+]
+
+-- a row that was lengthened by another, and then had its words put in, has the marks of both
+pub both_marks : (one other longer row : Row) → one.start ≡ 0 → other.start ≡ 0 → row.start ≡ 0 → IsLengthened one other longer → ArePut (one.skipped + length one.words) longer other row
     → (d : ℕ) → is_marked row d ≡ (is_marked one d || is_marked other d)
-united_all one other row p start also end had d =
-    marked row had.start d
-    ∙ ap (λ w. is_bit w (d % 64)) (elim (cases_lt (d / 64) p) [
-      | inl l ↦ had.done (d / 64) l
-      | inr l ↦ had.rest (d / 64) l ∙ sym (ap (bit_or (word_of one (d / 64))) (no_word_behind other (d / 64) (omega (arith, l, end))) ∙ or_comm (word_of one (d / 64)) 0)
-    ])
+both_marks one other longer row start also begins long put d =
+    marked row begins d
+    ∙ ap (λ w. is_bit w (d % 64)) (put.words (d / 64) ∙ by (d / 64))
     ∙ bit_of_union (word_of one (d / 64)) (word_of other (d / 64)) (d % 64)
     ∙ sym (ap2 (λ a b. a || b) (marked one start d) (marked other also d))
+  where
+    end : ℕ
+    end = one.skipped + length one.words
+
+    by : (n : ℕ) → (if nat_lt n end then bit_or (word_of longer n) (word_of other n) else word_of longer n) ≡ bit_or (word_of one n) (word_of other n)
+    by n = ap (λ w. if nat_lt n end then bit_or w (word_of other n) else w) (long.words n) ∙ elim (cases_lt n end) [
+      | inl k ↦ ap (λ b. if b then bit_or (if b then word_of one n else word_of other n) (word_of other n) else (if b then word_of one n else word_of other n)) (lt-ltb n end k)
+      | inr k ↦ ap (λ b. if b then bit_or (if b then word_of one n else word_of other n) (word_of other n) else (if b then word_of one n else word_of other n)) (le-ltb n end k)
+          ∙ sym (ap (λ w. bit_or w (word_of other n)) (no_word_behind one n k))
+    ]
 
 pub rest : (one other : Row) (words : List ℕ) → one.start ≡ 0 → other.start ≡ 0 → length one.words ≤ length words
     → ((i : ℕ) → i < length words → (k : ℕ) → k < 64 → is_bit (get_or words i 0) k ≡ (is_bit (word_of one (one.skipped + i)) k && not (is_bit (word_of other (one.skipped + i)) k)))

@@ -1,10 +1,10 @@
 //! Rows as sets of numbers. Each function takes time in the words of its rows, from the first that
 //! is there to the last.
 
-ghost use Rattle.std.specs.Prelude.{◌≡◌, ◌<◌, ◌≤◌, ◌+◌, ◌%◌, ◌^◌, ◌↔◌, ℕ, ◌||◌, ◌&&◌, not, length, IfOk, IsTrue, OnErr, OnOk};
+ghost use Rattle.std.specs.Prelude.{◌≡◌, ◌<◌, ◌≤◌, ◌+◌, min, ◌%◌, ◌^◌, ◌↔◌, ℕ, ◌||◌, ◌&&◌, not, length, IfOk, IsTrue, OnErr, OnOk};
 ghost use Rattle.qvt_metamodel.specs.Kept.{no_row, is_bit, is_marked};
 ghost use Rattle.qvt_meta_tables.specs.Tables.{EndsWithin};
-ghost use Rattle.qvt_rows.specs.Sets.{Overlap, IsSubset};
+ghost use Rattle.qvt_rows.specs.Sets.{Overlap, IsSubset, IsLengthened, ArePut};
 
 use qvt_base::list_fault::ListFault;
 use qvt_base::seq::Seq;
@@ -57,41 +57,49 @@ pub fn united(alloc: Global, bound: u32, one: &Row, other: &Row) -> Result<Row, 
     })
 }
 
-/// Puts words without marks behind those of a set, so that it ends at this place or later. The set
-/// stays the same, also where there is no memory for all of them.
-fn lengthen(row: &mut Row, bound: u32, end: u32) -> Result<(), ListFault>
-    requires row { EndsWithin bound row.old }
-    requires end { end ≤ bound }
-    ensures marks { (d : ℕ) → is_marked row.new d ≡ is_marked row.old d }
-    ensures within { EndsWithin bound row.new }
-    ensures first { OnOk result (row.new.skipped ≡ row.old.skipped) }
-    ensures end { OnOk result (end ≤ row.new.skipped + length row.new.words) }
-{
-    for place in end_of(row, bound)..end {
-        row.words.push(0)?;
-    }
-    Ok(())
-}
-
-/// Puts the numbers of another set into a set that has words at all places where the other has
-/// some.
-fn put_words(row: &mut Row, bound: u32, other: &Row)
+/// Puts the words of another set behind those of a set, from where these end, and words without marks between. For want of memory
+/// the set has the numbers that it had.
+fn lengthen(row: &mut Row, bound: u32, other: &Row) -> Result<(), ListFault>
     requires row { EndsWithin bound row.old }
     requires other { EndsWithin bound other.now }
     requires first { row.old.skipped ≤ other.now.skipped }
-    requires end { other.now.skipped + length other.now.words ≤ row.old.skipped + length row.old.words }
-    ensures marks { (d : ℕ) → is_marked row.new d ≡ (is_marked row.old d || is_marked other.now d) }
     ensures within { EndsWithin bound row.new }
+    ensures ok { OnOk result (IsLengthened row.old other.now row.new) }
+    ensures err { OnErr result ((d : ℕ) → is_marked row.new d ≡ is_marked row.old d) }
 {
-    for place in other.skipped..end_of(other, bound) {
+    let end = end_of(row, bound);
+    if end_of(other, bound) <= end {
+        return Ok(());
+    }
+    for place in end..other.skipped {
+        row.words.push(0)?;
+    }
+    let (_, rest) = other
+        .words
+        .as_slice()
+        .split_at((end.max(other.skipped) - other.skipped) as usize);
+    row.words.extend(rest)?;
+    Ok(())
+}
+
+/// Puts the numbers of another set before this place into a set that has words there.
+fn put_words(row: &mut Row, bound: u32, other: &Row, end: u32)
+    requires row { EndsWithin bound row.old }
+    requires other { EndsWithin bound other.now }
+    requires first { row.old.skipped ≤ other.now.skipped }
+    requires end { min end (other.now.skipped + length other.now.words) ≤ row.old.skipped + length row.old.words }
+    ensures within { EndsWithin bound row.new }
+    ensures words { ArePut end row.old other.now row.new }
+{
+    for place in other.skipped..end_of(other, bound).min(end) {
         let word = word_of(row, place) | word_of(other, place);
         row.words.set((place - row.skipped) as usize, word);
     }
 }
 
 /// Puts the numbers of another set into a set, in time in the words of the other alone where the
-/// set has words from the first of the other to its last. For want of memory the set has the numbers
-/// that it had.
+/// set has words from the first of the other on. For want of memory the set has the numbers that it
+/// had.
 pub fn unite(alloc: Global, bound: u32, row: &mut Row, other: &Row) -> Result<(), ListFault>
     requires row { EndsWithin bound row.old }
     requires other { EndsWithin bound other.now }
@@ -103,8 +111,9 @@ pub fn unite(alloc: Global, bound: u32, row: &mut Row, other: &Row) -> Result<()
         *row = united(alloc, bound, row, other)?;
         return Ok(());
     }
-    lengthen(row, bound, end_of(other, bound))?;
-    put_words(row, bound, other);
+    let end = end_of(row, bound);
+    lengthen(row, bound, other)?;
+    put_words(row, bound, other, end);
     Ok(())
 }
 

@@ -8,7 +8,7 @@ use Rattle.qvt_base.specs.declared.numbers.FeatureNo.{FeatureNo}
 use Rattle.qvt_base.specs.declared.numbers.Oid.{Oid}
 use Rattle.qvt_value.specs.declared.value.Value.{Value}
 use Rattle.qvt_metas.specs.Metamodels.{Metamodels, features_of}
-use Rattle.qvt_metamodel.specs.WellFormed.{IsWellFormed}
+use Rattle.qvt_metas.specs.WellFormed.{IsWellFormed}
 use Rattle.qvt_relation.proofs.Bools.{clash}
 use Rattle.qvt_slots.specs.declared.cell.Holder.{Holder}
 use Rattle.qvt_slots.specs.declared.cell.Cell.{Cell}

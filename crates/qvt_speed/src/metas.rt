@@ -1,7 +1,7 @@
 //! A metamodel, and the extent of one model of it.
 
 ghost use Rattle.std.specs.Prelude.{◌≡◌, [], None, IfSome};
-ghost use Rattle.qvt_metamodel.specs.Added.{HasRoom};
+ghost use Rattle.qvt_metas.specs.Added.{HasRoom};
 
 use qvt_base::seq::Seq;
 use qvt_base::text::Text;

@@ -4,6 +4,7 @@ pub use Rattle.qvt_slots.specs.Contents
 pub use Rattle.qvt_slots.specs.Limits
 pub use Rattle.qvt_slots.specs.Types
 pub use Rattle.qvt_slots.specs.Repeats
+pub use Rattle.qvt_slots.specs.Cells
 pub use Rattle.qvt_slots.specs.Assign
 pub use Rattle.qvt_store_laws.specs.Law
 pub use Rattle.qvt_store_laws.specs.Place

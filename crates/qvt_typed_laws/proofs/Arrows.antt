@@ -1,7 +1,7 @@
 -- What the rules of iterators, objects, resolves and statements write, over what their parts write.
 use Rattle.qvt_base.specs.declared.numbers.ExprNo.{ExprNo}
 use Rattle.qvt_base.specs.declared.numbers.Place.{Place}
-use Rattle.qvt_metamodel.specs.Metamodels.{class_at}
+use Rattle.qvt_metas.specs.Metamodels.{class_at}
 use Rattle.qvt_tree_types.specs.declared.types.PathTree.{PathTree}
 use Rattle.qvt_tree_types.specs.declared.words.ResolveWord.{ResolveWord}
 use Rattle.qvt_typed_laws.proofs.Follows.{◌&◌, Quiet, Marks, Answers, Follows, quietly, given, looked, sourced, telling, checking, either, declaring, settling, blank, marking, answering, before_mark, after_mark, before_answer, one_mark, both, closed, behind, last, part, numbered, before, after, before_closing, inside}

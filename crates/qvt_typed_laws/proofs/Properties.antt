@@ -5,8 +5,8 @@ use Rattle.qvt_base.specs.declared.numbers.Place.{Place}
 use Rattle.std.specs.Prelude.{if◌then◌else◌, slice_index_or, nat_lt, Result, Ok, Err}
 use Rattle.std.specs.List.{flat_map, range_with_len}
 use Rattle.qvt_base.specs.declared.numbers.FeatureNo.{FeatureNo}
-use Rattle.qvt_metamodel.specs.Added.{numbers_from}
-use Rattle.qvt_metamodel.specs.Metamodels.{Metamodels, among_features, each_once, features_in, features_of, class_at, nowhere_class}
+use Rattle.qvt_metas.specs.Added.{numbers_from}
+use Rattle.qvt_metas.specs.Metamodels.{Metamodels, among_features, each_once, features_in, features_of, class_at, nowhere_class}
 use Rattle.qvt_metamodel.specs.Names.{is_among}
 use Rattle.qvt_metamodel.specs.declared.info.ClassInfo.{ClassInfo}
 use Rattle.qvt_metamodel.specs.declared.info.FeatureShape.{FeatureShape}

@@ -5,7 +5,7 @@ use Rattle.std.specs.Prelude.{is_some, if◌then◌else◌, Result, Ok, Err, ◌
 use Rattle.std.specs.Str.{bytes_eq}
 use Rattle.qvt_base.specs.declared.numbers.ClassNo.{ClassNo}
 use Rattle.qvt_base.specs.declared.numbers.FeatureNo.{FeatureNo}
-use Rattle.qvt_metamodel.specs.Metamodels.{shape_of}
+use Rattle.qvt_metas.specs.Metamodels.{shape_of}
 use Rattle.qvt_types_classes.specs.Classes.{is_typed}
 use Rattle.qvt_types_data.specs.Notes.{told}
 use Rattle.qvt_types_data.specs.Term.{same_type, ty_view}

@@ -3,7 +3,7 @@ use Rattle.std.proofs.Common.{◌≡◌, refl, ℕ, Bool, true, false, List, [],
 use Rattle.std.proofs.lemmas.Bool.{false≢true}
 use Rattle.std.specs.Prelude.{is_some, if◌then◌else◌, not, ◌||◌}
 use Rattle.qvt_base.specs.declared.numbers.Place.{Place}
-use Rattle.qvt_metamodel.specs.Metamodels.{Metamodels}
+use Rattle.qvt_metas.specs.Metamodels.{Metamodels}
 use Rattle.qvt_types_data.specs.declared.refusal.RefusalKind.{RefusalKind}
 use Rattle.qvt_types_data.specs.declared.ty.Ty.{Ty}
 use Rattle.qvt_types_data.specs.declared.variable.VariableSort.TheVariants as sort

@@ -1,6 +1,6 @@
 -- What a program that is accepted is, by what judging gives.
 use Rattle.std.specs.Prelude.{◌≡◌, [], Ok}
-use Rattle.qvt_metamodel.specs.Metamodels.{Metamodels}
+use Rattle.qvt_metas.specs.Metamodels.{Metamodels}
 use Rattle.qvt_tree_types.specs.Module.{ModuleTerm}
 use Rattle.qvt_types_laws.specs.JoinModule.{joined}
 use Rattle.qvt_typing.specs.Accepts.{ProgramTerm, accepts, heads_of, heads_told, judged}

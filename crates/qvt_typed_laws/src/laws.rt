@@ -2,7 +2,7 @@
 
 ghost use Rattle.std.specs.Prelude.{◌≡◌, ◌++◌, List, [], IsTrue};
 ghost use Rattle.std.specs.List.{list_all, range_with_len};
-ghost use Rattle.qvt_metamodel.specs.Metamodels.{Metamodels};
+ghost use Rattle.qvt_metas.specs.Metamodels.{Metamodels};
 ghost use Rattle.qvt_tree_types.specs.Module.{ModuleTerm};
 ghost use Rattle.qvt_types_data.specs.declared.note.Note.{Note};
 ghost use Rattle.qvt_types_laws.specs.JoinModule.{join_module, joined};

@@ -1,7 +1,7 @@
 -- The metamodels of the job are those of the program without what was put after them.
 use Rattle.std.proofs.Common.{◌≡◌, ◌∙◌, ℕ, ◌+◌, ◌-◌, List, [], ◌∷◌, ◌++◌, length, take, Option, None, refl, sym, ap, arith, length-append}
 use Rattle.qvt_base.specs.declared.numbers.ClassNo.{ClassNo}
-use Rattle.qvt_metamodel.specs.Extended.{extended, unnamed, element_class, given_classes, given_features}
+use Rattle.qvt_metas.specs.Extended.{extended, unnamed, element_class, given_classes, given_features}
 use Rattle.qvt_metas.specs.Metamodels.{Metamodels}
 use Rattle.qvt_metamodel.specs.declared.given.ClassData.{ClassData}
 use Rattle.qvt_metamodel.specs.declared.info.ClassInfo.{ClassInfo}

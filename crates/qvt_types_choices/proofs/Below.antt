@@ -7,8 +7,8 @@ use Rattle.qvt_metamodel.specs.declared.info.ClassInfo.{ClassInfo}
 use Rattle.qvt_metamodel.specs.declared.row.Row.{Row}
 use Rattle.qvt_metas.specs.Metamodels.{Metamodels, is_element}
 use Rattle.qvt_metas.specs.Descends.{IsAncestor, descends, reaches}
-use Rattle.qvt_metamodel.specs.Kept.{no_row, is_marked}
-use Rattle.qvt_metamodel.specs.WellFormed.{IsWellFormed}
+use Rattle.qvt_metas.specs.Kept.{no_row, is_marked}
+use Rattle.qvt_metas.specs.WellFormed.{IsWellFormed}
 use Rattle.qvt_metamodel.proofs.Bools.{not_true, clash, ap2}
 use Rattle.qvt_metamodel.proofs.Ancestors.{none_past, ends}
 use Rattle.qvt_metas.specs.Tables.{of_classes, EndsWithin}

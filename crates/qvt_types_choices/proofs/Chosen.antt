@@ -1,12 +1,12 @@
 -- The choices that are told once for all classes.
-use Rattle.std.proofs.Common.{◌≡◌, ◌∙◌, ℕ, ◌<◌, List, [], ◌∷◌, length, Bool, true, false, ◌&&◌, ◌||◌, not, Option, Some, None, refl, sym, ap, arith}
+use Rattle.std.proofs.Common.{eqb, ◌≡◌, ◌∙◌, ℕ, ◌<◌, List, [], ◌∷◌, length, Bool, true, false, ◌&&◌, ◌||◌, not, Option, Some, None, refl, sym, ap, arith}
 use Rattle.std.specs.Prelude.{if◌then◌else◌, filter, is_some, IsTrue}
-use Rattle.std.specs.List.{list_any, range_with_len}
+use Rattle.std.specs.List.{list_any, range_with_len, IsDistinct}
 use Rattle.std.proofs.lemmas.Bool.{eq-eqb, lt-ltb}
 use Rattle.std.proofs.lemmas.List.FromFn.{get_or-map-range_with_len}
 use Rattle.qvt_metas.specs.Metamodels.{Metamodels, class_at, is_element}
 use Rattle.qvt_metas.specs.Descends.{descends, reaches}
-use Rattle.qvt_metamodel.specs.Kept.{is_marked}
+use Rattle.qvt_metas.specs.Kept.{is_marked}
 use Rattle.qvt_metamodel.specs.declared.row.Row.{Row}
 use Rattle.qvt_metamodel.proofs.Bools.{and_left, and_right, not_true, clash}
 use Rattle.qvt_types_units.specs.declared.choice.FoundUnit.{FoundUnit}
@@ -18,7 +18,10 @@ use Rattle.qvt_types_units.specs.Choice.{is_context_above, is_below, context_at,
 use Rattle.qvt_types_choices.specs.Stuck.{is_stuck, all_stuck, lacks_one, found_alone}
 use Rattle.qvt_types_choices.specs.Sets.{IsSetOf}
 use Rattle.qvt_types_choices.specs.ByClass.{choice_among, choice_for, choices, choice_at, is_unclear, is_stuck_by, settled, some_below}
+use Rattle.qvt_types_choices.specs.Only.{is_only, least_above}
+use Rattle.qvt_types_choices.proofs.ByClass.{Antisymmetric}
 use Rattle.qvt_types_choices.proofs.Sets.{any_same, in_range_below}
+use Rattle.qvt_types_choices.proofs.Singly.{only_choice, no_choice}
 
 abbrev pub Transitive : Metamodels → Type 0
 Transitive m = (c d e : ℕ) → IsTrue (descends m c d) → IsTrue (descends m d e) → IsTrue (descends m c e)
@@ -191,3 +194,12 @@ module _ (m : Metamodels) (us : List Signature) (t : Transitive m) where
 
   pub alone_is : (n c : ℕ) → found_alone m n (context_at us n) c ≡ looked_up m us (n ∷ []) c
   alone_is n c = sym (alone_by n c (context_at us n) refl)
+
+-- a unit that is the lowest above a concrete class with a single choice is that
+pub told_single : (m : Metamodels) (us : List Signature) → Antisymmetric m → Transitive m → (ns : List ℕ) → IsDistinct eqb ns → (c n : ℕ) → least_above m us ns c ≡ Some n
+    → (class_at m c).is_abstract ≡ false → is_stuck m us ns c ≡ false → Chosen n ≡ choice_for m us ns c
+told_single m us a t ns distinct c n least concrete has_one = by (is_only m us ns n c) refl
+  where
+    by : (b : Bool) → is_only m us ns n c ≡ b → Chosen n ≡ choice_for m us ns c
+    by true e = only_choice m us a ns c t distinct n least e
+    by false e = clash (sym (ap (λ b. not b && true) (sym concrete) ∙ ap (is_stuck_by m c) (no_choice m us a ns c t n least e) ∙ stuck_by m us ns c)) has_one

@@ -6,7 +6,7 @@ use Rattle.std.proofs.lemmas.Bool.{cases_lt, ltb-true}
 use Rattle.qvt_metas.specs.Metamodels.{Metamodels, class_at}
 use Rattle.qvt_metas.specs.Tables.{EndsWithin}
 use Rattle.qvt_metamodel.specs.declared.row.Row.{Row}
-use Rattle.qvt_metamodel.specs.Kept.{is_marked}
+use Rattle.qvt_metas.specs.Kept.{is_marked}
 use Rattle.qvt_metamodel.proofs.Bools.{ap2}
 use Rattle.qvt_rows.proofs.SetWords.{no_mark_behind}
 use Rattle.qvt_counts.specs.declared.counter.Counter.{Counter}

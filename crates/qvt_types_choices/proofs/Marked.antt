@@ -10,7 +10,7 @@ use Rattle.std.proofs.lemmas.Bool.Decides.{leb_tells}
 use Rattle.std.proofs.lemmas.List.{get_or-set_same, get_or-set_other}
 use Rattle.qvt_metas.specs.Metamodels.{Metamodels}
 use Rattle.qvt_metamodel.specs.declared.row.Row.{Row}
-use Rattle.qvt_metamodel.specs.Kept.{no_row, word_of, is_bit, is_marked}
+use Rattle.qvt_metas.specs.Kept.{no_row, word_of, is_bit, is_marked}
 use Rattle.qvt_metamodel.proofs.Bools.{and_no, not_true}
 use Rattle.qvt_metamodel.proofs.Rows.{no_bit, no_mark}
 use Rattle.qvt_metas.specs.Tables.{mark_of}

@@ -6,7 +6,7 @@ use Rattle.std.proofs.lemmas.List.{take_all}
 use Rattle.std.proofs.lemmas.Bool.{eq-eqb, eqb-true, lt-ltb, ltb-true, le-ltb}
 use Rattle.qvt_metamodel.specs.declared.row.Row.{Row}
 use Rattle.qvt_metas.specs.Metamodels.{Metamodels}
-use Rattle.qvt_metamodel.specs.Kept.{is_marked, no_row}
+use Rattle.qvt_metas.specs.Kept.{is_marked, no_row}
 use Rattle.qvt_metamodel.proofs.Bools.{and_both, and_left, and_right, clash, not_true, ap2}
 use Rattle.qvt_metamodel.proofs.Rows.{no_mark}
 use Rattle.qvt_metas.specs.Tables.{EndsWithin}

@@ -4,7 +4,7 @@ use Rattle.std.specs.List.{list_any, list_all, range_with_len}
 use Rattle.qvt_base.specs.declared.numbers.ClassNo.{ClassNo}
 use Rattle.qvt_metas.specs.Metamodels.{Metamodels, class_at, is_element}
 use Rattle.qvt_metas.specs.Descends.{descends}
-use Rattle.qvt_metamodel.specs.Kept.{is_marked}
+use Rattle.qvt_metas.specs.Kept.{is_marked}
 use Rattle.qvt_metamodel.specs.declared.row.Row.{Row}
 use Rattle.qvt_types_units.specs.declared.choice.FoundUnit.{FoundUnit}
 use Rattle.qvt_types_units.specs.declared.choice.FoundUnit.TheVariants.{NoUnit, Untyped, Unclear, Chosen}

@@ -2,7 +2,7 @@
 use Rattle.std.specs.Prelude.{◌≡◌, ◌<◌, ◌+◌, ◌/◌, ℕ, min, nat_lt, ◌==◌, ◌&&◌, ◌||◌, Bool, true, false, length, slice_index_or}
 use Rattle.qvt_metas.specs.Metamodels.{Metamodels, class_at}
 use Rattle.qvt_metas.specs.Descends.{reaches}
-use Rattle.qvt_metamodel.specs.Kept.{no_row, is_marked}
+use Rattle.qvt_metas.specs.Kept.{no_row, is_marked}
 use Rattle.qvt_metamodel.specs.declared.row.Row.{Row}
 use Rattle.qvt_metas.specs.Tables.{EndsWithin}
 use Rattle.qvt_types_choices.specs.declared.class_sets.ClassSets.{ClassSets}

@@ -1,13 +1,13 @@
 //! Sets of numbers that are made in place.
 
 ghost use Rattle.std.specs.Prelude.{◌≡◌, ◌<◌, ◌/◌, ◌||◌, ◌&&◌, ◌==◌, ℕ, replicate, length, IfOk};
-ghost use Rattle.qvt_metamodel.specs.Kept.{is_marked};
+ghost use Rattle.qvt_metas.specs.Kept.{is_marked};
 ghost use Rattle.qvt_counts.specs.Counts.{bits};
 ghost use Rattle.qvt_types_choices.specs.Sets.{word_count};
 
 use qvt_base::list_fault::ListFault;
 use qvt_base::seq::Seq;
-use qvt_metamodel::row::Row;
+use qvt_metas::row::Row;
 use qvt_rows::sets::bit_of;
 use std::alloc::Global;
 

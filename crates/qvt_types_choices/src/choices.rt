@@ -12,7 +12,7 @@ use crate::class_sets::{ClassSets, set_below};
 use crate::only::choice_of;
 use qvt_base::list_fault::ListFault;
 use qvt_base::numbers::ClassNo;
-use qvt_metamodel::row::Row;
+use qvt_metas::row::Row;
 use qvt_rows::sets::overlap;
 use qvt_types_paths::metas::Metas;
 use qvt_types_units::choice::{FoundUnit, context_at, is_unknown};

@@ -2,7 +2,7 @@
 
 ghost use Rattle.std.specs.Prelude.{◌≡◌, ◌<◌, ℕ, eqb, length, replicate, false, None, is_some, IfOk};
 ghost use Rattle.std.specs.List.{IsDistinct};
-ghost use Rattle.qvt_metas.specs.Metamodels.{class_at};
+ghost use Rattle.qvt_metas.specs.Metamodels.{class_at, is_element};
 ghost use Rattle.qvt_types_units.specs.Choice as choice;
 ghost use Rattle.qvt_types_choices.specs.ByClass as by_class;
 ghost use Rattle.qvt_types_choices.specs.ByClass.{AreKnown, AreChosen};
@@ -15,8 +15,8 @@ use crate::stuck::emptied;
 use qvt_base::list_fault::ListFault;
 use qvt_base::numbers::ClassNo;
 use qvt_base::seq::Seq;
-use qvt_metamodel::row::Row;
 use qvt_metas::order::{Order, order_of};
+use qvt_metas::row::Row;
 use qvt_metas::tables::supers_at;
 use qvt_types_paths::metas::Metas;
 use qvt_types_units::choice::{FoundUnit, context_at};
@@ -132,8 +132,6 @@ pub fn is_element(metas: &Metas, class: ClassNo) -> bool
     let nowhere = metas.class_count();
     class.0 != nowhere && metas.descends(ClassNo(nowhere), class)
 }
-
-ghost use Rattle.qvt_metas.specs.Metamodels.{is_element};
 
 fn is_top(metas: &Metas, context: HeadClass) -> bool
     ensures { result ≡ by_class.is_top metas.now context }

@@ -1,13 +1,18 @@
 //! The single choice among units of a name, told without memory.
 
-ghost use Rattle.std.specs.Prelude.{◌≡◌, ◌&&◌, eqb};
+ghost use Rattle.std.specs.Prelude.{◌≡◌, ◌<◌, ◌&&◌, eqb, false, length, IsTrue};
 ghost use Rattle.std.specs.List.{IsDistinct, list_any};
 ghost use Rattle.qvt_types_units.specs.Choice as choice;
 ghost use Rattle.qvt_types_choices.specs.ByClass as by_class;
 ghost use Rattle.qvt_types_choices.specs.Only as only;
+ghost use Rattle.qvt_types_choices.specs.Sets.{IsSetOf};
+ghost use Rattle.qvt_types_choices.specs.Stuck.{is_stuck};
+ghost use Rattle.qvt_metas.specs.Kept.{is_marked};
+ghost use Rattle.qvt_metas.specs.Metamodels.{class_at};
 
 use crate::candidates::lower;
 use qvt_base::numbers::ClassNo;
+use qvt_metas::row::{Row, is_marked};
 use qvt_types_paths::metas::Metas;
 use qvt_types_units::choice::{FoundUnit, context_at, is_below};
 use qvt_types_units::overrides::is_strictly_below;
@@ -84,6 +89,44 @@ fn least_above(metas: &Metas, units: &[Signature], group: &[u32], class: ClassNo
         }
     }
     least
+}
+
+/// Whether the class is a concrete one that is not in this set.
+fn is_told_single(metas: &Metas, stuck: &Row, class: ClassNo) -> bool
+    ensures there { IsTrue result → class.0 < length metas.now.classes }
+    ensures concrete { IsTrue result → (class_at metas.now class.0).is_abstract ≡ false }
+    ensures unmarked { IsTrue result → is_marked stuck.now class.0 ≡ false }
+{
+    metas.are_well_formed();
+    class.0 < metas.class_count() && !metas.is_abstract(class) && !is_marked(stuck, class.0)
+}
+
+/// The choice for the class, where these are the classes without a single one, which tell of most classes whether the lowest unit
+/// above it is that.
+pub fn choice_by_stuck(
+    metas: &Metas,
+    units: &[Signature],
+    group: &[u32],
+    stuck: &Row,
+    class: ClassNo,
+) -> FoundUnit
+    requires distinct { IsDistinct eqb group.now }
+    requires stuck { IsSetOf metas.now (is_stuck metas.now units.now group.now) stuck.now }
+    ensures { result ≡ by_class.choice_for metas.now units.now group.now class.0 }
+{
+    metas.are_well_formed();
+    match least_above(metas, units, group, class) {
+        None => FoundUnit::NoUnit,
+        Some(number) => {
+            if is_told_single(metas, stuck, class) {
+                FoundUnit::Chosen(number)
+            } else if is_only(metas, units, group, number, class) {
+                FoundUnit::Chosen(number)
+            } else {
+                FoundUnit::Unclear
+            }
+        }
+    }
 }
 
 /// The choice for the class, in time linear in the number of the units.

@@ -16,8 +16,8 @@ use crate::only::is_rival;
 use qvt_base::list_fault::ListFault;
 use qvt_base::seq::Seq;
 use qvt_counts::counter::Counter;
-use qvt_counts::counts::{Counts, add_set, counted_without, no_counts, put_counted};
-use qvt_metamodel::row::Row;
+use qvt_counts::counts::{SetCounts, add_set, counted_without, no_counts, put_counted};
+use qvt_metas::row::Row;
 use qvt_rows::sets::{empty_row, is_subset, overlap, without};
 use qvt_types_paths::metas::Metas;
 use qvt_types_units::choice::context_at;
@@ -44,7 +44,7 @@ fn counts_of(
     units: &[Signature],
     sets: &ClassSets,
     group: &[u32],
-) -> Result<Counts, ListFault>
+) -> Result<SetCounts, ListFault>
     requires sets { AreSets metas.now sets.now }
     requires few { length group.now ≤ 126 }
     ensures each { IfOk result (λ counts. length counts ≡ word_count (length metas.now.classes)) }
@@ -175,7 +175,7 @@ ghost use Rattle.std.specs.Prelude.{ℕ, Bool};
 ghost use Rattle.qvt_metas.specs.Tables.{EndsWithin};
 
 /// Of so many units each is compared with each, which takes no longer than to count.
-const MOST_COMPARED: usize = 16;
+const MOST_COMPARED: usize = 6;
 
 /// Whether there are so few units that they are compared, and no two of them are rivals of each other with a class below both.
 fn are_apart(metas: &Metas, units: &[Signature], sets: &ClassSets, group: &[u32]) -> bool

@@ -9,17 +9,18 @@ ghost use Rattle.qvt_types_choices.specs.Tables.{TellsOf};
 use crate::choices::{found, is_unsure};
 use crate::class_choices::{ClassChoices, all_choices};
 use crate::class_sets::ClassSets;
-use crate::only::choice_of;
+use crate::only::choice_by_stuck;
 use crate::stuck::set_of_stuck;
 use qvt_base::list_fault::ListFault;
 use qvt_base::numbers::ClassNo;
-use qvt_metamodel::row::Row;
+use qvt_metas::row::Row;
 use qvt_types_paths::metas::Metas;
 use qvt_types_units::choice::FoundUnit;
 use qvt_types_units::signature::Signature;
 use std::alloc::Global;
 
-/// So many units of a name are few: the numbers up to one more than theirs have seven binary digits, and a call looks at each of them.
+/// So many units of a name are few. A call looks at each of them, where it looks at one of many; the choice for each class, which is
+/// told once for many, takes as long as some calls. More can't be counted with seven digits.
 const MOST_FEW: usize = 126;
 
 /// What is told once of the units of a name.
@@ -78,7 +79,7 @@ fn found_by_few(
     ensures { result ≡ choice.looked_up metas.now units.now group.now class.0 }
 {
     metas.are_well_formed();
-    let choice = choice_of(metas, units, group, class);
+    let choice = choice_by_stuck(metas, units, group, stuck, class);
     found(metas, sets, false, stuck, class, choice)
 }
 

@@ -8,9 +8,9 @@ use Rattle.std.proofs.lemmas.List.FromFn.{get_or-map-range_with_len}
 use Rattle.qvt_base.specs.declared.numbers.FeatureNo.{FeatureNo}
 use Rattle.qvt_relation.specs.Closure.{Closure, directly, through}
 use Rattle.qvt_relation.proofs.Closures.{join}
-use Rattle.qvt_metamodel.specs.Added.{numbers_from}
+use Rattle.qvt_metas.specs.Added.{numbers_from}
 use Rattle.qvt_metas.specs.Descends.{is_superclass, Inherits}
-use Rattle.qvt_metamodel.specs.Kept.{AreRanks}
+use Rattle.qvt_metas.specs.Kept.{AreRanks}
 use Rattle.qvt_metas.specs.Metamodels.{Metamodels, among_features, class_at, each_once, features_in, features_of, nowhere_class}
 use Rattle.qvt_metamodel.specs.Names.{is_among, repeated}
 use Rattle.qvt_metamodel.specs.declared.info.ClassInfo.{ClassInfo}

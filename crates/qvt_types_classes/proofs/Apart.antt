@@ -5,7 +5,7 @@ use Rattle.std.specs.List.{AllByRecursion, flat_map}
 use Rattle.std.proofs.lemmas.List.{append-nil, get_or_default, length-append, length-map}
 use Rattle.std.proofs.Math.Seq.{drop-append_seam}
 use Rattle.qvt_relation.specs.Closure.{Closure}
-use Rattle.qvt_metamodel.specs.Added.{numbers_from}
+use Rattle.qvt_metas.specs.Added.{numbers_from}
 use Rattle.qvt_metas.specs.Metamodels.{among_features, class_at, features_in}
 use Rattle.qvt_metamodel.specs.Names.{repeated}
 use Rattle.qvt_metamodel.proofs.Bools.{ap2}

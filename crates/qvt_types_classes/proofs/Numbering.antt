@@ -5,8 +5,8 @@ use Rattle.std.proofs.lemmas.Bool.{eq-eqb}
 use Rattle.std.proofs.lemmas.Bool.{cases_eq}
 use Rattle.std.proofs.lemmas.Bool.Decides.{leb_tells}
 use Rattle.std.proofs.lemmas.List.{length-map, get_or_past}
-use Rattle.qvt_metamodel.specs.Added.{numbers_from}
-use Rattle.qvt_metamodel.specs.Extended.{given_class, given_classes, given_feature, given_features}
+use Rattle.qvt_metas.specs.Added.{numbers_from}
+use Rattle.qvt_metas.specs.Extended.{given_class, given_classes, given_feature, given_features}
 use Rattle.qvt_metas.specs.Metamodels.{among_features, nowhere_class, nowhere_feature}
 use Rattle.qvt_metamodel.specs.declared.given.ClassData.{ClassData}
 use Rattle.qvt_metamodel.specs.declared.given.FeatureData.{FeatureData}

@@ -5,7 +5,7 @@ use Rattle.std.specs.List.{AllByRecursion, list_all}
 use Rattle.std.proofs.lemmas.Bool.{eq-eqb, lt-ltb}
 use Rattle.std.proofs.lemmas.List.{length-map}
 use Rattle.qvt_base.specs.declared.numbers.FeatureNo.{FeatureNo}
-use Rattle.qvt_metamodel.specs.Extended.{AreGiven}
+use Rattle.qvt_metas.specs.Extended.{AreGiven}
 use Rattle.qvt_metas.specs.Metamodels.{Metamodels}
 use Rattle.qvt_metas.specs.Named.{metamodel_at}
 use Rattle.qvt_metamodel.specs.declared.given.ClassData.{ClassData}

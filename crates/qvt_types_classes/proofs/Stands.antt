@@ -8,11 +8,11 @@ use Rattle.qvt_base.specs.declared.numbers.ClassNo.{ClassNo}
 use Rattle.qvt_base.specs.declared.numbers.FeatureNo.{FeatureNo}
 use Rattle.qvt_cycle.specs.Successors.{among}
 use Rattle.qvt_relation.specs.Closure.{Closure, directly, through}
-use Rattle.qvt_metamodel.specs.Added.{numbers_from}
+use Rattle.qvt_metas.specs.Added.{numbers_from}
 use Rattle.qvt_metamodel.specs.Checks.{repeated_feature}
 use Rattle.qvt_metas.specs.Descends.{is_superclass, Inherits}
-use Rattle.qvt_metamodel.specs.Extended.{given_classes, given_features, is_given_superclass}
-use Rattle.qvt_metamodel.specs.Kept.{AreRanks}
+use Rattle.qvt_metas.specs.Extended.{given_classes, given_features, is_given_superclass}
+use Rattle.qvt_metas.specs.Kept.{AreRanks}
 use Rattle.qvt_metas.specs.Metamodels.{Metamodels, among_features, class_at, each_once, feature_at, features_in, features_of, nowhere_class, nowhere_feature}
 use Rattle.qvt_metamodel.specs.Names.{is_among, repeated}
 use Rattle.qvt_metamodel.specs.declared.given.ClassData.{ClassData}

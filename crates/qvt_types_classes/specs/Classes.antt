@@ -2,9 +2,9 @@
 use Rattle.std.specs.Prelude.{ℕ, ◌+◌, ◌-◌, ◌<◌, nat_lt, Bool, true, List, ◌++◌, length, map, slice_index_or, if◌then◌else◌}
 use Rattle.std.specs.List.{flat_map, AllByRecursion}
 use Rattle.qvt_base.specs.declared.numbers.ClassNo.{ClassNo}
-use Rattle.qvt_metamodel.specs.Kept.{AreRanks}
+use Rattle.qvt_metas.specs.Kept.{AreRanks}
 use Rattle.qvt_metas.specs.Metamodels.{Metamodels}
-use Rattle.qvt_metamodel.specs.Extended.{extended}
+use Rattle.qvt_metas.specs.Extended.{extended}
 use Rattle.qvt_metamodel.specs.declared.given.ClassData.{ClassData}
 use Rattle.qvt_metamodel.specs.declared.given.FeatureData.{FeatureData}
 use Rattle.qvt_metamodel.specs.declared.info.ClassInfo.{ClassInfo}

@@ -5,7 +5,7 @@ use Rattle.std.specs.List.{flat_map, range_with_len}
 use Rattle.qvt_base.specs.declared.numbers.ClassNo.{ClassNo}
 use Rattle.qvt_base.specs.declared.numbers.FeatureNo.{FeatureNo}
 use Rattle.qvt_metas.specs.Metamodels.{features_of, nowhere_shape}
-use Rattle.qvt_metamodel.specs.Added.{numbers_from}
+use Rattle.qvt_metas.specs.Added.{numbers_from}
 use Rattle.qvt_metamodel.specs.Names.{is_among, repeated}
 use Rattle.qvt_metamodel.specs.declared.info.ClassInfo.{ClassInfo}
 use Rattle.qvt_metas.specs.Tables.{of_classes}

@@ -1,7 +1,7 @@
 -- The numbers that stand for the names of properties.
 use Rattle.std.specs.Prelude.{ℕ, List, [], ◌∷◌, map}
 use Rattle.qvt_base.specs.declared.numbers.FeatureNo.{FeatureNo}
-use Rattle.qvt_metamodel.specs.Added.{place_in}
+use Rattle.qvt_metas.specs.Added.{place_in}
 use Rattle.qvt_types_classes.specs.declared.declared.Property.{Property}
 use Rattle.qvt_types_classes.specs.Inherited.{names_of, property_at}
 

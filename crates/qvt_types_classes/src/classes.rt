@@ -1,7 +1,7 @@
 //! The metamodels of a transformation with its intermediate classes.
 
 ghost use Rattle.std.specs.Prelude.{◌≡◌, ◌++◌, [], None, length, map, IfOk, OnOk};
-ghost use Rattle.qvt_metamodel.specs.Extended.{AreGiven};
+ghost use Rattle.qvt_metas.specs.Extended.{AreGiven};
 ghost use Rattle.qvt_metas.specs.Search.{AreLive, IsAcyclic};
 ghost use Rattle.qvt_tree_types.specs.Module.{unit_view};
 ghost use Rattle.qvt_types_paths.specs.ModelTypes.{class_names};

@@ -1,7 +1,7 @@
 //! Numbers that stand for the names of properties, and the names that repeat an earlier one.
 
 ghost use Rattle.std.specs.Prelude.{◌≡◌, map, IfOk};
-ghost use Rattle.qvt_metamodel.specs.Added.{place_in};
+ghost use Rattle.qvt_metas.specs.Added.{place_in};
 ghost use Rattle.qvt_meta_lists.specs.Lists.{all_lists};
 ghost use Rattle.qvt_meta_repeats.specs.Flags.{name_flags};
 ghost use Rattle.qvt_types_classes.specs.Keys as names;

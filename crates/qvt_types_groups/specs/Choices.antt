@@ -35,9 +35,9 @@ pub record HaveTables (m : Metamodels) (us : List Signature) (t : ToldUnits) : T
   pub told : EachTells m us t.tables
 
 -- there are tables exactly where some units are called like others
-abbrev pub AreTold : Metamodels → List Signature → Option ToldUnits → Type 0
-AreTold m us None = IsTrue (not (are_several us))
-AreTold m us (Some t) = HaveTables m us t
+abbrev pub TablesTell : Metamodels → List Signature → Option ToldUnits → Type 0
+TablesTell m us None = IsTrue (not (are_several us))
+TablesTell m us (Some t) = HaveTables m us t
 
 -- metamodels with Element and the intermediate classes of a transformation, and its units
 pub record ChosenUnits : Type 0 where

@@ -133,7 +133,7 @@ fn told_units(
     metas: &Metas,
     names: &UnitNames,
 ) -> Result<Option<ToldUnits>, ListFault>
-    ensures { IfOk result (choices_of.AreTold metas.now names.now) }
+    ensures { IfOk result (choices_of.TablesTell metas.now names.now) }
 {
     if !are_several(names) {
         return Ok(None);
@@ -161,7 +161,7 @@ impl Drop for Units {
 impl Model for Units {
     ghost use Rattle.std.specs.Coded.{codes};
     ghost use Rattle.qvt_types_data.specs.contracts.ty.Ty as ty_row;
-    ghost use Rattle.qvt_types_groups.specs.Choices.{ChosenUnits, AreTold};
+    ghost use Rattle.qvt_types_groups.specs.Choices.{ChosenUnits, TablesTell};
 
     ghost Value = { ChosenUnits };
 
@@ -169,7 +169,7 @@ impl Model for Units {
 
     ghost view = { λ t. record { metas = t.metas; units = t.names } };
 
-    ghost invariant = { λ t. AreTold t.metas t.names t.told };
+    ghost invariant = { λ t. TablesTell t.metas t.names t.told };
 }
 
 impl Units {

@@ -1,6 +1,6 @@
 -- A program that is done: it is done with every fuel that is enough, and its trace has one record of a key.
 use Rattle.std.proofs.Common.{◌≡◌, ◌∙◌, refl, ap, subst, ℕ, Bool, true, false, nat_lt, if◌then◌else◌, Option, Some, None, Result, Ok, Err, IsTrue}
-use Rattle.qvt_slots.specs.Contents.{Contents}
+use Rattle.qvt_store.specs.Contents.{Contents}
 use Rattle.qvt_conform.specs.declared.fault.LowFault.{LowFault}
 use Rattle.qvt_meaning.specs.Accepts.{ProgramTerm}
 use Rattle.qvt_meaning.specs.Laws.{keys_differ}

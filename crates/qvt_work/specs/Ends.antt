@@ -1,6 +1,6 @@
 -- What a run of the engine leaves.
 use Rattle.std.specs.Prelude.{ℕ, List, Option, Result}
-use Rattle.qvt_slots.specs.Contents.{Contents}
+use Rattle.qvt_store.specs.Contents.{Contents}
 use Rattle.qvt_job.specs.declared.job.Job.{Job}
 use Rattle.qvt_meaning.specs.Accepts.{ProgramTerm}
 use Rattle.qvt_meaning_report.specs.Meaning.{meaning}

@@ -2,7 +2,7 @@
 -- the same.
 use Rattle.std.specs.Prelude.{◌≡◌, ℕ, nat_lt, if◌then◌else◌, List}
 use Rattle.qvt_base.specs.Outside.{Held}
-use Rattle.qvt_slots.specs.Contents.{Contents}
+use Rattle.qvt_store.specs.Contents.{Contents}
 use Rattle.qvt_job.specs.declared.job.Job.{Job}
 use Rattle.qvt_meaning.specs.Accepts.{ProgramTerm}
 use Rattle.qvt_meaning.specs.Run.{FinishedRun}

@@ -2,7 +2,7 @@
 
 use super::ground::metas;
 use qvt_base::text::Text;
-use qvt_metamodel::row::{Row, is_marked};
+use qvt_metas::row::{Row, is_marked};
 use qvt_rows::below::rows_below;
 use qvt_types_choices::class_choices::class_order;
 use std::alloc::Global;

@@ -1,6 +1,6 @@
 use Rattle.std.proofs.Common.{◌∙◌, ap}
 use Rattle.qvt_run_rules.specs.Expressions.{selected}
-use Rattle.qvt_slots.specs.Contents.{Contents}
+use Rattle.qvt_store.specs.Contents.{Contents}
 use Rattle.qvt_exec_state.specs.Runs.{seen}
 use Rattle.qvt_exec_leaves.proofs.Over.{class_selected}
 use Rattle.qvt_exec_leaves.proofs.steps.select_class.Goals as goal

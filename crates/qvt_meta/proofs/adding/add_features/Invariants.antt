@@ -1,5 +1,5 @@
 use Rattle.std.proofs.Common.{◌≡◌, ◌++◌, take, map}
-use Rattle.qvt_metamodel.specs.Added.{feature_info}
+use Rattle.qvt_metas.specs.Added.{feature_info}
 use Rattle.qvt_meta.proofs.adding.add_features.Given as goal
 
 abbrev pub invariant-loop-feature : goal.invariant-loop-feature

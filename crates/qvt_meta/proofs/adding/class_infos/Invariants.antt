@@ -1,5 +1,5 @@
 use Rattle.std.proofs.Common.{◌≡◌, ◌+◌, ◌++◌, drop}
-use Rattle.qvt_metamodel.specs.Added.{class_infos, feature_count}
+use Rattle.qvt_metas.specs.Added.{class_infos, feature_count}
 use Rattle.qvt_meta.proofs.adding.class_infos.Given as goal
 
 abbrev pub invariant-loop-class : goal.invariant-loop-class

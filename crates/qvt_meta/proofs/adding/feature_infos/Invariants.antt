@@ -1,5 +1,5 @@
 use Rattle.std.proofs.Common.{◌≡◌, ◌++◌, ◌+◌, drop}
-use Rattle.qvt_metamodel.specs.Added.{feature_infos}
+use Rattle.qvt_metas.specs.Added.{feature_infos}
 use Rattle.qvt_meta.proofs.adding.feature_infos.Given as goal
 
 abbrev pub invariant-loop-class : goal.invariant-loop-class

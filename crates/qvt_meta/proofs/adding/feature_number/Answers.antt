@@ -1,5 +1,5 @@
 use Rattle.std.proofs.Common.{◌≡◌, ◌∙◌, ◌+◌, ◌≤◌, ℕ, List, length, take, get_or, arith, ap}
-use Rattle.qvt_metamodel.specs.Added.{feature_count}
+use Rattle.qvt_metas.specs.Added.{feature_count}
 use Rattle.qvt_meta.specs.Places.{firsts_of}
 use Rattle.qvt_metamodel.specs.declared.declared.DeclaredClass.{DeclaredClass}
 use Rattle.qvt_meta.proofs.Counts.{count_within}

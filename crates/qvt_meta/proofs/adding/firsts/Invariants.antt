@@ -1,5 +1,5 @@
 use Rattle.std.proofs.Common.{◌≡◌, ◌+◌, ◌++◌, drop}
-use Rattle.qvt_metamodel.specs.Added.{feature_count}
+use Rattle.qvt_metas.specs.Added.{feature_count}
 use Rattle.qvt_meta.specs.Places.{firsts_of}
 use Rattle.qvt_meta.proofs.adding.firsts.Given as goal
 

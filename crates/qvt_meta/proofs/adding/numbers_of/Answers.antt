@@ -1,7 +1,7 @@
 use Rattle.std.proofs.Common.{◌∙◌, [], map, ap}
 use Rattle.qvt_metamodel.specs.declared.info.EnumInfo.{EnumInfo}
 use Rattle.qvt_json.specs.Repeated.{repeated}
-use Rattle.qvt_metamodel.specs.Added.{names_of}
+use Rattle.qvt_metas.specs.Added.{names_of}
 use Rattle.qvt_meta_checks.proofs.Passing.{enums_alone, classes_alone}
 use Rattle.qvt_meta.proofs.adding.numbers_of.Goals as goal
 

@@ -6,7 +6,7 @@ use Rattle.std.specs.List.{position_or_len}
 use Rattle.std.proofs.lemmas.List.{get_or_read}
 use Rattle.qvt_metamodel.specs.declared.declared.DeclaredFeature.{DeclaredFeature}
 use Rattle.qvt_metamodel.specs.declared.declared.DeclaredClass.{DeclaredClass}
-use Rattle.qvt_metamodel.specs.Added.{declared_at, place_in}
+use Rattle.qvt_metas.specs.Added.{declared_at, place_in}
 use Rattle.qvt_metamodel.specs.MetaData.{feature_names}
 use Rattle.qvt_metamodel.proofs.Lookups.{position-map, some-within}
 use Rattle.qvt_meta.specs.Places.{AreOwnNames}

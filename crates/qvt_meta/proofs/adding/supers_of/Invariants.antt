@@ -1,5 +1,5 @@
 use Rattle.std.proofs.Common.{◌≡◌, ◌+◌, take, map}
-use Rattle.qvt_metamodel.specs.Added.{place_in}
+use Rattle.qvt_metas.specs.Added.{place_in}
 use Rattle.qvt_meta.proofs.adding.supers_of.Given as goal
 
 abbrev pub invariant-loop-name : goal.invariant-loop-name

@@ -1,6 +1,6 @@
 use Rattle.std.proofs.Common.{◌∙◌, ◌<◌, Some, option_map, ap, sym, subst, length, arith}
 use Rattle.std.specs.Prelude.{IfSome}
-use Rattle.qvt_metamodel.specs.Added.{declared_at}
+use Rattle.qvt_metas.specs.Added.{declared_at}
 use Rattle.qvt_meta_tables.specs.Cycles.{first_cycle}
 use Rattle.qvt_meta_tables.proofs.Cyclic.{acyclic_of}
 use Rattle.qvt_meta.proofs.Cyclic.{total, cycle_is}

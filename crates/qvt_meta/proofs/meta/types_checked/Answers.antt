@@ -1,6 +1,6 @@
 use Rattle.std.proofs.Common.{◌∙◌, [], ap}
 use Rattle.qvt_json.specs.Repeated.{repeated}
-use Rattle.qvt_metamodel.specs.Added.{names_of}
+use Rattle.qvt_metas.specs.Added.{names_of}
 use Rattle.qvt_meta_checks.proofs.Passing.{classes_alone}
 use Rattle.qvt_meta.proofs.meta.types_checked.Goals as goal
 

@@ -4,7 +4,7 @@ use Rattle.std.specs.Str.{bytes_eq}
 use Rattle.std.proofs.lemmas.List.{length-append, get_or_read}
 use Rattle.qvt_metamodel.specs.declared.declared.DeclaredClass.{DeclaredClass}
 use Rattle.qvt_metamodel.specs.declared.declared.DeclaredFeature.{DeclaredFeature}
-use Rattle.qvt_metamodel.specs.Added.{declared_at, nothing_declared}
+use Rattle.qvt_metas.specs.Added.{declared_at, nothing_declared}
 use Rattle.qvt_meta_checks.proofs.Paired.{each-more}
 use Rattle.qvt_meta.proofs.own_names.own_names.Goals as goal
 

@@ -2,7 +2,7 @@ use Rattle.std.proofs.Common.{◌≡◌, ◌<◌, ℕ, List, [], length, positio
 use Rattle.std.specs.Map.{lookup}
 use Rattle.std.specs.Str.{bytes_eq}
 use Rattle.qvt_metamodel.specs.declared.declared.DeclaredFeature.{DeclaredFeature}
-use Rattle.qvt_metamodel.specs.Added.{declared_at}
+use Rattle.qvt_metas.specs.Added.{declared_at}
 use Rattle.qvt_meta.proofs.own_names.own_names.Given as goal
 
 abbrev pub invariant-loop-class : goal.invariant-loop-class

@@ -1,5 +1,5 @@
 use Rattle.std.proofs.Common.{◌≡◌, drop, option_map}
-use Rattle.qvt_metamodel.specs.Added.{numbered}
+use Rattle.qvt_metas.specs.Added.{numbered}
 use Rattle.qvt_metamodel.specs.Checks.{first_from, repeated_feature, ClassAndName}
 use Rattle.qvt_meta.proofs.same_feature.same_feature.Given as goal
 

@@ -1,5 +1,5 @@
 use Rattle.std.proofs.Common.{◌∙◌, sym, subst}
-use Rattle.qvt_metamodel.specs.Extended.{AreGiven}
+use Rattle.qvt_metas.specs.Extended.{AreGiven}
 use Rattle.qvt_metamodel.proofs.Bools.{clash}
 use Rattle.qvt_meta_given.proofs.Sound.{given_of, live_given, loose_given}
 use Rattle.qvt_meta_given.proofs.given.are_given.Goals as goal

@@ -1,6 +1,6 @@
 use Rattle.std.proofs.Common.{◌≡◌, ◌∙◌, ◌+◌, length, drop, ap, sym, arith}
 use Rattle.std.specs.List.{list_all}
-use Rattle.qvt_metamodel.specs.Extended.{extended}
+use Rattle.qvt_metas.specs.Extended.{extended}
 use Rattle.qvt_metamodel.proofs.Bools.{ap2}
 use Rattle.qvt_meta_lists.specs.Lists.{all_lists}
 use Rattle.qvt_meta_tables.specs.Cycles.{first_cycle}

@@ -1,5 +1,5 @@
 use Rattle.std.proofs.Common.{◌≡◌, ◌+◌, drop}
-use Rattle.qvt_metamodel.specs.Extended.{given_count}
+use Rattle.qvt_metas.specs.Extended.{given_count}
 use Rattle.qvt_meta_given.proofs.room.fit_from.Given as goal
 
 abbrev pub invariant-loop-class : goal.invariant-loop-class

@@ -1,4 +1,4 @@
-use Rattle.std.proofs.Common.{◌∙◌, [], refl, sym, arith, slice_index_or}
+use Rattle.std.proofs.Common.{[], refl, arith, slice_index_or}
 use Rattle.std.proofs.lemmas.Bool.{eq-eqb}
 use Rattle.qvt_meta_lists.specs.Lists.{all_lists}
 use Rattle.qvt_meta_tables.proofs.Once.{none_next}

@@ -1,7 +1,7 @@
 use Rattle.std.proofs.Common.{◌≡◌, ◌∙◌, ◌<◌, ◌^◌, eqb, [], length, sym, ap, subst, ◌≤◌, arith}
 use Rattle.serde_json.specs.View.{view}
 use Rattle.qvt_repeats.specs.Repeats.{repeated_by}
-use Rattle.qvt_metamodel.specs.WellFormed.{IsWellFormed}
+use Rattle.qvt_metas.specs.WellFormed.{IsWellFormed}
 use Rattle.qvt_json.specs.Plain.{IsPlain, file_text}
 use Rattle.qvt_store.specs.Contents.{is_live, members_of}
 use Rattle.qvt_store.specs.Limits.{most_objects}

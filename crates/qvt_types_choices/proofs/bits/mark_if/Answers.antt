@@ -1,6 +1,6 @@
 use Rattle.std.proofs.Common.{◌∙◌, ◌/◌, ◌||◌, ◌&&◌, ◌==◌, get_or, set, ap, sym}
 use Rattle.std.specs.Int.RustNames.{bit_or}
-use Rattle.qvt_metamodel.specs.Kept.{is_marked}
+use Rattle.qvt_metas.specs.Kept.{is_marked}
 use Rattle.qvt_counts.specs.Counts.{bits}
 use Rattle.qvt_types_choices.proofs.Marked.{marked_more}
 use Rattle.qvt_types_choices.proofs.bits.mark_if.Goals as goal

@@ -1,6 +1,6 @@
 use Rattle.std.proofs.Common.{◌≡◌, ℕ, ◌&&◌, length}
 use Rattle.std.specs.Prelude.{nat_lt}
-use Rattle.qvt_metamodel.specs.Kept.{is_marked}
+use Rattle.qvt_metas.specs.Kept.{is_marked}
 use Rattle.qvt_counts.specs.Counts.{bits}
 use Rattle.qvt_types_choices.specs.Stuck.{is_stuck}
 use Rattle.qvt_types_choices.specs.ByClass.{choices}

@@ -1,7 +1,7 @@
 use Rattle.std.proofs.Common.{◌≡◌, ℕ, ◌&&◌, length}
 use Rattle.std.specs.Prelude.{nat_lt}
 use Rattle.qvt_metas.specs.Metamodels.{class_at}
-use Rattle.qvt_metamodel.specs.Kept.{is_marked}
+use Rattle.qvt_metas.specs.Kept.{is_marked}
 use Rattle.qvt_counts.specs.Counts.{bits}
 use Rattle.qvt_types_choices.specs.Sets.{word_count}
 use Rattle.qvt_types_choices.proofs.class_sets.abstract_classes.Given as goal

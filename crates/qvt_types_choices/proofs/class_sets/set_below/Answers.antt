@@ -1,6 +1,6 @@
 use Rattle.std.proofs.Common.{◌∙◌, ◌<◌, length, arith, get_or, subst, sym}
 use Rattle.std.proofs.lemmas.List.{get_or_default}
-use Rattle.qvt_metamodel.specs.Kept.{no_row}
+use Rattle.qvt_metas.specs.Kept.{no_row}
 use Rattle.qvt_metas.specs.Descends.{descends}
 use Rattle.qvt_types_choices.specs.Sets.{IsSetOf}
 use Rattle.qvt_types_choices.proofs.Below.{set_plain, set_element, set_none}

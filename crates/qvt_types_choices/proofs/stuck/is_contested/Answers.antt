@@ -1,7 +1,7 @@
 use Rattle.std.proofs.Common.{◌∙◌, ℕ, Bool, length, ◌&&◌, ap, sym}
 use Rattle.std.specs.List.{list_any, range_with_len}
 use Rattle.std.proofs.lemmas.Bool.{lt-ltb}
-use Rattle.qvt_metamodel.specs.Kept.{is_marked}
+use Rattle.qvt_metas.specs.Kept.{is_marked}
 use Rattle.qvt_metas.specs.Metamodels.{Metamodels}
 use Rattle.qvt_types_units.specs.Choice.{is_context_above, context_at}
 use Rattle.qvt_types_choices.proofs.Sets.{any_same, in_range_below, some_in_both}

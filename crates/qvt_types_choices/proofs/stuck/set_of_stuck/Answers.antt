@@ -1,6 +1,6 @@
 use Rattle.std.proofs.Common.{◌∙◌, ◌&&◌, not, length, ap, sym, subst}
 use Rattle.std.specs.Prelude.{nat_lt}
-use Rattle.qvt_metamodel.specs.Kept.{is_marked}
+use Rattle.qvt_metas.specs.Kept.{is_marked}
 use Rattle.qvt_counts.specs.Counts.{bits, count_at}
 use Rattle.qvt_metas.specs.Tables.{EndsWithin}
 use Rattle.qvt_types_choices.specs.Sets.{IsSetOf}

@@ -1,5 +1,5 @@
 use Rattle.std.proofs.Common.{◌≡◌, ◌∙◌, ap, map, subst, sym}
-use Rattle.qvt_metamodel.specs.Extended.{AreGiven}
+use Rattle.qvt_metas.specs.Extended.{AreGiven}
 use Rattle.qvt_tree_types.specs.Module.{unit_view}
 use Rattle.qvt_types_classes.specs.Classes.{HaveRanks, HaveSupers, all_data, own_classes, read_classes}
 use Rattle.qvt_types_classes.specs.Inherited.{numbered_from}

@@ -1,5 +1,5 @@
 use Rattle.std.proofs.Common.{◌≡◌, map, take}
-use Rattle.qvt_metamodel.specs.Added.{place_in}
+use Rattle.qvt_metas.specs.Added.{place_in}
 use Rattle.qvt_types_classes.specs.declared.declared.Property.{Property}
 use Rattle.qvt_types_classes.proofs.keyed.keys_of.Given as goal
 

@@ -6,8 +6,8 @@ use Rattle.qvt_meta_lists.specs.Lists.{all_lists, front_of, AreLined, IsLineFron
 use Rattle.qvt_meta_lists.proofs.Fronts.{Lines, line_at, put_longer, grows_longer, fronts_stay, front_longer, lined_longer}
 use Rattle.qvt_meta_lists.proofs.lists.FeatureLists.put_after.Goals as goal
 
-pub returns : goal.returns
-returns c =
+pub returns-clause-ok : goal.returns-clause-ok
+returns-clause-ok c =
     let same : c.self.inside.lines.items ≡ c.args.self.now.lines = ap (λ ls. ls.lines) c.self.view_is in
     (λ i. map (front_of (c.in_ok-count.ensures.ok i)) (c.put_front.ensures i))
     ∙ put_longer c.self.inside.lines.items c.self.inside.fronts c.args.class c.args.front c.args.features.now _

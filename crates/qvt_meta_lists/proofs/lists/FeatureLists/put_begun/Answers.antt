@@ -8,8 +8,8 @@ use Rattle.qvt_meta_lists.specs.Lists.{all_lists, front_of, AreLined, HasFront, 
 use Rattle.qvt_meta_lists.proofs.Fronts.{Lines, Begins, grows_append, fronts_stay, front_last, lined_more, put_last}
 use Rattle.qvt_meta_lists.proofs.lists.FeatureLists.put_begun.Goals as goal
 
-pub returns : goal.returns
-returns c =
+pub returns-clause-ok : goal.returns-clause-ok
+returns-clause-ok c =
     (λ i. map (front_of (c.in_default.ensures.ok i)) (c.put_front.ensures i))
     ∙ put_last c.self.inside.lines.items c.self.inside.fronts c.args.class c.args.list _ _ (omega (arith, c.len.ensures)) (omega (arith, c.len-2.ensures)) c.self.invariant.within
     ∙ ap (λ ls. slice_set (all_lists ls) c.args.class c.args.list) c.self.view_is
