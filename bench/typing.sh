@@ -148,17 +148,18 @@ texts "a hundred queries of each of many names" "$main" "$(for i in $(seq 0 99);
 for count in 7 17 126 127; do
   texts "$count queries of each of many names" "$main" "$(for i in $(seq 0 $((count - 1))); do printf 'query D%d::q#() : Integer = #; ' "$i"; done)" ''
 done
-calls() { # so many queries of each of some names, on about half of a text of so many bytes, for calls of one of them on the other half
+calls() { # so many queries of each of some names, on such a part of a text of so many bytes, for calls of one of them on the rest
   local name at
   front=$begin
-  for name in $(seq $(($2 / 2 / 32 / $1 + 1))); do
+  for name in $(seq $(($2 / $3 / 32 / $1 + 1))); do
     for at in $(seq 0 $(($1 - 1))); do front+="query D$at::q$name() : Integer = 1; "; done
   done
   front+="main() { var x : D$(($1 - 1)) := null; "
 }
-for count in 126 127; do
-  remade() { calls "$count" "$1"; }
-  texts "$count queries of each of some names, and calls of one" "" 'x.q1(); ' '} '
+for family in "126 2" "127 2" "126 8" "127 8"; do
+  read -r count part <<<"$family"
+  remade() { calls "$count" "$1" "$part"; }
+  texts "$count queries of each of some names on a part in $part of the text, and calls of one" "" 'x.q1(); ' '} '
 done
 remade() { :; }
 texts "constructors" "$main" 'constructor D#::D#(p : Integer) { pages := p; } ' ''
