@@ -21,7 +21,7 @@ impl Copied for Text {
 
 impl<T: Copied> Copied for Seq<T> {
     fn copy(&self, alloc: Global) -> Result<Seq<T>, ListFault> {
-        let mut copies = Seq::new(alloc);
+        let mut copies = Seq::with_room(alloc, self.len())?;
         for item in self.as_slice() {
             copies.push(item.copy(alloc)?)?;
         }

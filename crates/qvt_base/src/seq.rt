@@ -40,6 +40,16 @@ impl<T> Seq<T> {
         }
     }
 
+    /// The empty list, with room for as many items: so many are put there without more memory.
+    pub fn with_room(alloc: Global, count: usize) -> Result<Seq<T>, ListFault>
+        ensures { IfOk result (λ s. s ≡ []) }
+    {
+        match Vec::with_capacity(alloc, count) {
+            Ok(items) => Ok(Seq { items }),
+            Err(_) => Err(ListFault::NoMemory),
+        }
+    }
+
     /// The list of these items. It takes no memory.
     pub fn from_vec(items: Vec<T>) -> Seq<T>
         ensures { result ≡ items.items }

@@ -1,6 +1,6 @@
 -- Slots entered into a table from the last to the first: the first of a feature counts.
-use Rattle.std.proofs.Common.{◌≡◌, ◌∙◌, ℕ, ◌+◌, ◌<◌, ◌≤◌, nat_eq, cond, List, [], ◌∷◌, length, drop, get_or, Bool, true, false, Bor, refl, sym, ap, subst, arith}
-use Rattle.std.specs.Prelude.{Option, Some, None, unwrap_or, option_map, if◌then◌else◌}
+use Rattle.std.proofs.Common.{◌≡◌, ◌∙◌, ℕ, ◌+◌, ◌≤◌, nat_eq, cond, List, [], ◌∷◌, length, drop, get_or, Bool, true, false, Bor, refl, sym, ap, arith}
+use Rattle.std.specs.Prelude.{Some, unwrap_or, option_map, if◌then◌else◌}
 use Rattle.std.specs.Map.{lookup}
 use Rattle.std.proofs.lemmas.List.{at_drop_more, at_drop_all}
 use Rattle.indexmap.specs.IndexMap.{IndexMap, get, IsEmpty, Updates}

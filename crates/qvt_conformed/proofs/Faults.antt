@@ -1,5 +1,5 @@
 -- A model without a fault conforms in the terms of a store.
-use Rattle.std.proofs.Common.{◌≡◌, ℕ, zero, suc, ◌+◌, ◌<◌, ◌≤◌, Bool, true, false, ◌==◌, ◌||◌, ◌&&◌, not, cond, inl, inr, refl, sym, ap, ◌∙◌, subst, List, [], ◌∷◌, ◌++◌, map, length, nat_lt, arith}
+use Rattle.std.proofs.Common.{◌≡◌, ℕ, zero, suc, ◌+◌, ◌<◌, ◌≤◌, Bool, true, false, ◌==◌, ◌||◌, ◌&&◌, not, cond, inl, inr, refl, sym, ap, ◌∙◌, subst, List, [], ◌∷◌, map, length, nat_lt, arith}
 use Rattle.std.specs.Prelude.{Option, Some, None, slice_index_or}
 use Rattle.std.specs.List.{list_any, AllByRecursion}
 use Rattle.std.proofs.lemmas.Bool.{cases_lt, cases_eq, eq-eqb, ne_eqb, le-ltb, leb-true, ltb-false}
@@ -14,7 +14,7 @@ use Rattle.qvt_value.specs.Order.{order_of}
 use Rattle.qvt_metas.specs.Metamodels.{Metamodels, class_at, feature_at, features_of, among_features, has_feature, shape_of, opposite, is_opposite, is_feature_number, is_containment}
 use Rattle.qvt_relation.specs.Closure.{Closure}
 use Rattle.qvt_relation.specs.Closure.Closure.{directly as one_step, through as more_steps}
-use Rattle.qvt_relation.proofs.Bools.{and_left, and_right, and_both, or_cases, or_none, none_left, none_right, either, clash, refuted}
+use Rattle.qvt_relation.proofs.Bools.{and_right, and_both, or_cases, none_left, none_right, either, clash, refuted}
 use Rattle.qvt_relation.proofs.Closures.{closure-reaches}
 use Rattle.qvt_json.specs.Steps.{or_next}
 use Rattle.qvt_model.proofs.Steps.{neither}

@@ -13,6 +13,10 @@ unfolding one
 one_few true = omega arith
 one_few false = omega arith
 
+pub one_none : one false ≡ 0
+unfolding one
+one_none = refl
+
 sum_of : (x y : ℕ) → x < 2 → y < 2 → one ((x + y) % 2 == 1) + 2 * one (min x y == 1) ≡ one (x == 1) + one (y == 1)
 unfolding one
 sum_of zero zero l k = refl

@@ -43,6 +43,9 @@ pub fn with_word(counter: &Counter, word: u64) -> Counter
     ensures { (k : ℕ) → counted counter.now k < 127 → counted result k ≡ counted counter.now k + one (is_bit word k) }
 {
     let (ones, carry) = sum(counter.ones, word);
+    if carry == 0 {
+        return Counter { ones, ..*counter };
+    }
     let (twos, carry) = sum(counter.twos, carry);
     let (fours, carry) = sum(counter.fours, carry);
     let (eights, carry) = sum(counter.eights, carry);

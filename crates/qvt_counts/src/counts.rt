@@ -63,7 +63,7 @@ pub fn counted_without(alloc: Global, counts: &[Counter], words: &[u64]) -> Resu
     ensures start { IfOk result (λ r. r.start ≡ 0) }
     ensures marks { IfOk result (λ r. (d : ℕ) → is_marked r d ≡ (nat_lt 0 (count_at counts.now d) && not (is_marked (bits words.now) d))) }
 {
-    let mut rest = Seq::new(alloc);
+    let mut rest = Seq::with_room(alloc, counts.len())?;
     for place in 0..counts.len() {
         rest.push(word_without(where_some(&counts[place]), words[place]))?;
     }

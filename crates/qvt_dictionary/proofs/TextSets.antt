@@ -1,5 +1,5 @@
 -- A set of texts that is kept by hash, beside the list of these texts.
-use Rattle.std.proofs.Common.{◌≡◌, ◌∙◌, ℕ, suc, List, [], ◌∷◌, ◌++◌, length, map, cond, not, nat_lt, Bool, false, Option, Some, None, position, String, Global, string_bytes, refl, sym, ap, ◌+◌}
+use Rattle.std.proofs.Common.{◌≡◌, ℕ, suc, List, [], ◌∷◌, ◌++◌, length, map, cond, not, nat_lt, Some, None, position, String, Global, string_bytes, refl, sym, ap, ◌+◌}
 use Rattle.std.specs.List.{list_any, position_or_len}
 use Rattle.std.specs.Str.{bytes_eq}
 

@@ -1,6 +1,6 @@
 -- What stands before an arrow that is neither null nor invalid; the items of a value.
-use Rattle.std.proofs.Common.{◌≡◌, ◌∙◌, Bool, true, false, List, [], ◌∷◌, refl, sym, ap}
-use Rattle.qvt_value.specs.declared.value.Value.{Value, Null, Invalid, Coll', items-the_row-Value, items_hidden-the_row-Value-0}
+use Rattle.std.proofs.Common.{◌≡◌, Bool, false, List, [], ◌∷◌, refl}
+use Rattle.qvt_value.specs.declared.value.Value.{Value, Null, Invalid, Coll', items_hidden-the_row-Value-0}
 use Rattle.qvt_value.specs.declared.value.Value.TheViews.{Coll}
 use Rattle.qvt_value.specs.declared.value.Kind.{Kind}
 use Rattle.qvt_value.specs.Make.{is_invalid, is_collection}

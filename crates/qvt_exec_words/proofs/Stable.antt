@@ -1,6 +1,6 @@
 -- A stable sort, whatever its way, gives the one list in order in which what ties keeps its order.
 use Rattle.std.proofs.Common.{◌≡◌, ◌≢◌, ◌∙◌, Bool, true, false, cond, refl, sym, ap, List, [], ◌∷◌, filter}
-use Rattle.std.specs.Prelude.{⊤, not, ◌&&◌}
+use Rattle.std.specs.Prelude.{not, ◌&&◌}
 use Rattle.std.specs.Cmp.{IsTotalOrder}
 use Rattle.std.specs.List.Sorted.{IsSortedBy, IsStableBy, ties}
 use Rattle.std.specs.Ordering.{is_eq, is_lt, ordering_reverse}

@@ -1,6 +1,5 @@
 -- The rows of units and of the module.
 use Rattle.std.proofs.Common.{◌≡◌, ℕ, zero, suc, ◌+◌, ◌≤◌, List, [], ◌∷◌, ◌++◌, Bool, true, false, ◌||◌, ◌&&◌, IsTrue, inl, inr, refl, sym, ap, ◌∙◌, subst, append-nil, arith, eqb, eqb-true, Option, Some, None}
-use Rattle.qvt_grammar.specs.Language.{Language}
 use Rattle.qvt_grammar.specs.Language as language
 use Rattle.qvt_grammar.specs.Reader.{starts}
 use Rattle.qvt_tree_types.specs.Tree.{ExprTerm, StmtTerm}

@@ -1,7 +1,6 @@
 -- A text is divided in one way, and has one fault.
 use Rattle.std.proofs.Common.{◌≡◌, ℕ, List, [], ◌∷◌, ◌++◌, length, ◌==◌, Bool, true, false, ◌⊎◌, inl, inr, refl, sym, ap, ◌∙◌, subst, arith, length-append, take}
 use Rattle.std.proofs.lemmas.List.{append_cancel_left, take_at}
-use Rattle.std.proofs.lemmas.Bool.Decides.{nat_tests}
 use Rattle.std.specs.Str.{encode_utf8_all}
 use Rattle.qvt_lexer.specs.Characters.{is_continue, is_digit, is_quote, is_line_comment}
 use Rattle.qvt_words.specs.Words.{is_double_sign, is_reserved}

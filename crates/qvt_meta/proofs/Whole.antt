@@ -349,9 +349,6 @@ module _ (d : MetaData) (ok : IsChecked d) (ranks : List ℕ) (ranked : AreRanks
   unfolding bad_opposite
   allowed c j l h = no_fault (is_bad_opposite d) ls c j ok.passes.bad_opposite l h
 
-  no_class : (c : ℕ) → length ls ≤ c → many d c ≡ 0
-  no_class c h = ap (λ (k : DeclaredClass). length k.features) (get_or_past ls c nothing_declared h)
-
   abbrev K : ℕ → DeclaredClass
   K c = declared_at ls c
 

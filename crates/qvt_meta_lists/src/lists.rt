@@ -63,7 +63,7 @@ fn one_line(alloc: Global) -> Result<Vec<FeatureNoList>, ListFault>
 fn empty_fronts(alloc: Global, count: usize) -> Result<Seq<Front>, ListFault>
     ensures { IfOk result (λ s. s ≡ replicate count (record { line = 0; count = 0 })) }
 {
-    let mut fronts = Seq::new(alloc);
+    let mut fronts = Seq::with_room(alloc, count)?;
     for at in 0..count {
         fronts.push(Front { line: 0, count: 0 })?;
     }

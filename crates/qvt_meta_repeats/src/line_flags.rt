@@ -30,22 +30,12 @@ impl Model for LineFlags {
     ghost invariant = { λ l. l.first ≡ position (λ b. b) l.flags };
 }
 
-/// The empty list, in memory for so many flags.
-fn empty_flags(alloc: Global, room: usize) -> Result<Seq<bool>, ListFault>
-    ensures { IfOk result (λ s. s ≡ []) }
-{
-    match Vec::with_capacity(alloc, room) {
-        Ok(items) => Ok(Seq::from_vec(items)),
-        Err(_) => Err(ListFault::NoMemory),
-    }
-}
-
 impl LineFlags {
     /// No flags, in memory for so many.
     fn none(alloc: Global, room: usize) -> Result<LineFlags, ListFault>
         ensures { IfOk result (λ l. l ≡ []) }
     {
-        let flags = empty_flags(alloc, room)?;
+        let flags = Seq::with_room(alloc, room)?;
         Ok(LineFlags { flags, first: None })
     }
 
@@ -54,7 +44,7 @@ impl LineFlags {
         requires { count ≤ length self.now }
         ensures { IfOk result (λ l. l ≡ take count self.now) }
     {
-        let mut flags = empty_flags(alloc, room)?;
+        let mut flags = Seq::with_room(alloc, room)?;
         let (front, _) = self.flags().split_at(count);
         flags.extend(front)?;
         let first = self.first_below(count);

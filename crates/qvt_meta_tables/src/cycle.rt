@@ -15,7 +15,7 @@ use std::alloc::Global;
 fn numbers_of(alloc: Global, classes: &[ClassNo]) -> Result<Positions, ListFault>
     ensures { IfOk result (λ s. s ≡ map (λ c. c.0) classes.now) }
 {
-    let mut numbers = Seq::new(alloc);
+    let mut numbers = Seq::with_room(alloc, classes.len())?;
     for class in classes {
         numbers.push(class.0)?;
     }
@@ -26,7 +26,7 @@ fn numbers_of(alloc: Global, classes: &[ClassNo]) -> Result<Positions, ListFault
 fn super_lists(alloc: Global, classes: &[ClassInfo]) -> Result<Vec<Positions>, ListFault>
     ensures { IfOk result (λ v. v.items ≡ map super_numbers classes.now) }
 {
-    let mut lists = Seq::new(alloc);
+    let mut lists = Seq::with_room(alloc, classes.len())?;
     for class in classes {
         lists.push(numbers_of(alloc, class.supers.as_slice())?)?;
     }

@@ -33,7 +33,7 @@ pub struct Search {
 fn flags(alloc: Global, count: usize) -> Result<Seq<bool>, ListFault>
     ensures { IfOk result (λ s. s ≡ replicate count false) }
 {
-    let mut flags = Seq::new(alloc);
+    let mut flags = Seq::with_room(alloc, count)?;
     for at in 0..count {
         flags.push(false)?;
     }
@@ -113,7 +113,7 @@ fn placed(alloc: Global, classes: &[ClassInfo], count: u32) -> Result<Seq<u32>, 
 {
     let mut search = Search {
         met: flags(alloc, classes.len())?,
-        placed: Seq::new(alloc),
+        placed: Seq::with_room(alloc, classes.len())?,
         visits: Seq::new(alloc),
     };
     for class in 0..count {
@@ -130,7 +130,7 @@ ghost use Rattle.qvt_meta_tables.specs.Search.{IsClosed};
 fn no_ranks(alloc: Global, count: usize) -> Result<Seq<u32>, ListFault>
     ensures { IfOk result (λ s. s ≡ replicate count 0) }
 {
-    let mut ranks = Seq::new(alloc);
+    let mut ranks = Seq::with_room(alloc, count)?;
     for at in 0..count {
         ranks.push(0)?;
     }

@@ -60,7 +60,7 @@ fn with_row(alloc: Global, bound: u32, row: &Row, class: u32, other: &Row) -> Re
     let end = (class / 64 + 1)
         .max(end_of(row, bound))
         .max(end_of(other, bound));
-    let mut words = Seq::new(alloc);
+    let mut words = Seq::with_room(alloc, end.saturating_sub(first) as usize)?;
     for number in first..end {
         words.push(word_of(row, number) | mark_of(class, number) | word_of(other, number))?;
     }
@@ -100,7 +100,7 @@ fn row_at(alloc: Global, bound: u32, rows: &Vec<Row>, supers: &[ClassNo]) -> Res
 fn empty_rows(alloc: Global, count: u32) -> Result<Vec<Row>, ListFault>
     ensures { IfOk result (λ v. v.items ≡ replicate count no_row) }
 {
-    let mut rows = Seq::new(alloc);
+    let mut rows = Seq::with_room(alloc, count as usize)?;
     for at in 0..count {
         rows.push(Row {
             start: 0,

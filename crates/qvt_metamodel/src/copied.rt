@@ -12,7 +12,7 @@ use std::alloc::Global;
 pub fn copies<T: Copied>(alloc: Global, items: &[T]) -> Result<Vec<T>, ListFault>
     ensures { IfOk result (λ v. v.items ≡ items.now) }
 {
-    let mut copies = Seq::new(alloc);
+    let mut copies = Seq::with_room(alloc, items.len())?;
     for item in items {
         copies.push(item.copy(alloc)?)?;
     }

@@ -13,7 +13,7 @@ pub fn numbers_from(alloc: Global, first: u32, count: usize) -> Result<FeatureNo
     ensures { IfOk result (λ s. s ≡ numbers_from first count) }
 {
     let last = first + count as u32;
-    let mut numbers = Seq::new(alloc);
+    let mut numbers = Seq::with_room(alloc, count)?;
     for number in first..last {
         numbers.push(FeatureNo(number))?;
     }

@@ -19,7 +19,7 @@ fn classes_on(alloc: Global, begin: Begin, classes: &[ClassNo]) -> Result<ClassN
     requires { ClassesFit begin classes.now }
     ensures { IfOk result (λ s. s ≡ map (class_on begin) classes.now) }
 {
-    let mut numbers = Seq::new(alloc);
+    let mut numbers = Seq::with_room(alloc, classes.len())?;
     for class in classes {
         numbers.push(ClassNo(begin.class + class.0))?;
     }
@@ -34,7 +34,7 @@ fn features_on(
     requires { FeaturesFit begin features.now }
     ensures { IfOk result (λ s. s ≡ map (feature_on begin) features.now) }
 {
-    let mut numbers = Seq::new(alloc);
+    let mut numbers = Seq::with_room(alloc, features.len())?;
     for feature in features {
         numbers.push(FeatureNo(begin.feature + feature.0))?;
     }
@@ -64,7 +64,7 @@ pub fn class_infos_on(
     requires { AllByRecursion (ClassFits begin) classes.now }
     ensures { IfOk result (λ v. v.items ≡ map (class_info_on begin) classes.now) }
 {
-    let mut infos = Seq::new(alloc);
+    let mut infos = Seq::with_room(alloc, classes.len())?;
     for class in classes {
         infos.push(class_info_on(alloc, begin, class)?)?;
     }
@@ -130,7 +130,7 @@ pub fn feature_infos_on(
     requires { AllByRecursion (FeatureFits begin) features.now }
     ensures { IfOk result (λ v. v.items ≡ map (feature_info_on begin) features.now) }
 {
-    let mut infos = Seq::new(alloc);
+    let mut infos = Seq::with_room(alloc, features.len())?;
     for feature in features {
         infos.push(feature_info_on(alloc, begin, feature)?)?;
     }
@@ -146,7 +146,7 @@ fn capped_on(begin: Begin, feature: FeatureNo) -> FeatureNo
 fn line_on(alloc: Global, begin: Begin, line: &[FeatureNo]) -> Result<FeatureNoList, ListFault>
     ensures { IfOk result (λ s. s ≡ map (capped_on begin) line.now) }
 {
-    let mut numbers = Seq::new(alloc);
+    let mut numbers = Seq::with_room(alloc, line.len())?;
     for feature in line {
         numbers.push(capped_on(begin, *feature))?;
     }
@@ -162,7 +162,7 @@ pub fn lines_on(
 ) -> Result<Vec<FeatureNoList>, ListFault>
     ensures { IfOk result (λ v. v.items ≡ map (map (capped_on begin)) lines.now) }
 {
-    let mut all = Seq::new(alloc);
+    let mut all = Seq::with_room(alloc, lines.len())?;
     for line in lines {
         all.push(line_on(alloc, begin, line.as_slice())?)?;
     }
@@ -185,7 +185,7 @@ pub fn rows_on(alloc: Global, begin: Begin, rows: &[Row]) -> Result<Vec<Row>, Li
     requires { AllByRecursion (λ r. begin.class + r.start < 2 ^ 32) rows.now }
     ensures { IfOk result (λ v. v.items ≡ map (row_on begin) rows.now) }
 {
-    let mut all = Seq::new(alloc);
+    let mut all = Seq::with_room(alloc, rows.len())?;
     for row in rows {
         all.push(row_on(alloc, begin, row)?)?;
     }
@@ -197,7 +197,7 @@ pub fn ranks_on(alloc: Global, begin: Begin, ranks: &[u32]) -> Result<Vec<u32>, 
     requires { AllByRecursion (λ r. begin.class + r < 2 ^ 32) ranks.now }
     ensures { IfOk result (λ v. v.items ≡ map (λ r. begin.class + r) ranks.now) }
 {
-    let mut all = Seq::new(alloc);
+    let mut all = Seq::with_room(alloc, ranks.len())?;
     for rank in ranks {
         all.push(begin.class + *rank)?;
     }

@@ -1,5 +1,5 @@
 -- The objects that are added and set slot by slot are those of a loaded model.
-use Rattle.std.proofs.Common.{◌≡◌, ℕ, zero, suc, ◌+◌, ◌<◌, Bool, true, false, ◌==◌, ◌||◌, cond, inl, inr, refl, sym, ap, ◌∙◌, subst, List, [], ◌∷◌, ◌++◌, map, length, get_or, Greater, arith}
+use Rattle.std.proofs.Common.{◌≡◌, ℕ, zero, suc, ◌+◌, Bool, true, false, ◌==◌, ◌||◌, cond, inl, inr, refl, sym, ap, ◌∙◌, subst, List, [], ◌∷◌, ◌++◌, map, length, Greater}
 use Rattle.std.specs.Prelude.{⊤, slice_index_or, slice_set}
 use Rattle.std.specs.List.{AllByRecursion}
 use Rattle.std.specs.Ordering.{nat_cmp, is_eq}
@@ -11,7 +11,7 @@ use Rattle.std.proofs.lemmas.Slice.Eq.{bytes_eq-Decides}
 use Rattle.std.proofs.lemmas.Map.Text.{is_eq-slice_cmp}
 use Rattle.qvt_base.specs.declared.numbers.FeatureNo.{FeatureNo}
 use Rattle.qvt_value.specs.declared.value.Value.{Value}
-use Rattle.qvt_metas.specs.Metamodels.{Metamodels, feature_at, features_of, among_features, has_feature}
+use Rattle.qvt_metas.specs.Metamodels.{Metamodels, feature_at, features_of, among_features}
 use Rattle.qvt_metas.specs.WellFormed.{IsWellFormed}
 use Rattle.qvt_relation.proofs.Bools.{or_none, none_left, none_right, clash, refuted}
 use Rattle.qvt_store.specs.Contents.{Contents, Instance, no_instance, list_of, set_list, set_slot, with_new}

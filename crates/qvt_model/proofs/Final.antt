@@ -8,9 +8,9 @@ use Rattle.std.proofs.lemmas.List.{get_or-map}
 use Rattle.qvt_base.specs.declared.numbers.FeatureNo.{FeatureNo}
 use Rattle.qvt_value.specs.declared.value.Value.{Value}
 use Rattle.qvt_metas.specs.Metamodels.{Metamodels, features_of, among_features, has_feature, is_containment}
-use Rattle.qvt_relation.proofs.Bools.{and_left, or_left, or_cases, either, clash}
-use Rattle.qvt_store.specs.Slots.{Slots, has, Contains, Inside, directly, through}
-use Rattle.qvt_store.specs.Contents.{Contents, Instance, no_instance, is_live, list_of, slot_in, slot_of}
+use Rattle.qvt_relation.proofs.Bools.{and_left, clash}
+use Rattle.qvt_store.specs.Slots.{has, Inside, directly, through}
+use Rattle.qvt_store.specs.Contents.{Contents, Instance, no_instance, list_of, slot_in, slot_of}
 use Rattle.qvt_store.specs.Types.{AreTyped}
 use Rattle.qvt_slots.proofs.Places.{list_of-nil}
 use Rattle.qvt_slots.proofs.Lists.{length-map, past_end}

@@ -1,5 +1,5 @@
 -- A model that conforms can be loaded, and leaves the loaded store, which is sound where the store was.
-use Rattle.std.proofs.Common.{◌≡◌, ℕ, suc, ◌+◌, ◌<◌, ◌≤◌, Bool, true, false, inl, inr, refl, sym, ap, ◌∙◌, subst, List, [], ◌∷◌, ◌++◌, map, length, arith}
+use Rattle.std.proofs.Common.{◌≡◌, ℕ, suc, ◌+◌, ◌<◌, true, false, inl, inr, sym, ap, ◌∙◌, subst, List, [], ◌∷◌, ◌++◌, map, length, arith}
 use Rattle.std.specs.Prelude.{⊤}
 use Rattle.std.specs.List.{AllByRecursion}
 use Rattle.std.proofs.lemmas.Bool.{cases_lt}
@@ -8,14 +8,14 @@ use Rattle.qvt_metas.specs.WellFormed.{IsWellFormed}
 use Rattle.qvt_store.specs.Slots.{has, OppositesAgree, Inside}
 use Rattle.qvt_store.specs.Contents.{Contents, Instance, slot_in, slot_of, extent_at, with_new}
 use Rattle.qvt_store.specs.Types.{AreTyped}
-use Rattle.qvt_store.specs.Sound.{IsClassFor, Sound, SoundButOpposites}
+use Rattle.qvt_store.specs.Sound.{Sound, SoundButOpposites}
 use Rattle.qvt_store_laws.proofs.SoundGrown.{add_keeps_loading}
 use Rattle.qvt_model.specs.declared.data.ObjectData.{ObjectData}
-use Rattle.qvt_model.specs.WellFormed.{IsObjectIn, IsModel}
+use Rattle.qvt_model.specs.WellFormed.{IsObjectIn}
 use Rattle.qvt_model.specs.WellFormed as parts
 use Rattle.qvt_model.specs.Items.{items_in}
 use Rattle.qvt_model.specs.Loaded.{loaded, IsLoadable}
-use Rattle.qvt_model.specs.Conforming.{slots_at, Conforms}
+use Rattle.qvt_model.specs.Conforming.{Conforms}
 use Rattle.qvt_model.specs.Steps.{objects_added, CanAdd, put_objects, with_objects, CanPutObjects}
 use Rattle.qvt_model.proofs.Shift.{HeldItem, has-shift}
 use Rattle.qvt_model.proofs.Final.{final, slot-old, slot-new, new_held, old_held, beyond}

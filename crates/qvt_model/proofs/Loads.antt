@@ -1,12 +1,12 @@
 -- What a loading leaves: other extents, the ids that were told, and those of a run.
-use Rattle.std.proofs.Common.{◌≡◌, ◌≢◌, ℕ, zero, suc, ◌+◌, ◌<◌, ◌≤◌, Bool, true, false, ◌==◌, cond, inl, inr, refl, sym, ap, ◌∙◌, subst, List, [], ◌∷◌, ◌++◌, map, length, length-append, append-nil, get_or, arith}
+use Rattle.std.proofs.Common.{◌≡◌, ◌≢◌, ℕ, zero, suc, ◌+◌, ◌<◌, ◌≤◌, true, false, cond, inl, inr, refl, sym, ap, ◌∙◌, subst, List, [], ◌∷◌, ◌++◌, map, length, length-append, append-nil, get_or, arith}
 use Rattle.std.specs.Prelude.{Option, Some, None, is_some}
 use Rattle.std.specs.List.{AllByRecursion}
 use Rattle.std.proofs.lemmas.Bool.{cases_lt, eq-eqb, ne_eqb, ltb-true, ltb-false, lt-ltb, le-ltb}
 use Rattle.std.proofs.lemmas.List.{get_or-map}
 use Rattle.qvt_base.specs.declared.numbers.Oid.{Oid}
 use Rattle.qvt_metas.specs.Metamodels.{Metamodels}
-use Rattle.qvt_store.specs.Contents.{Contents, Instance, no_instance, extent_at, extent_of, is_live, is_writable, members_from, members_of}
+use Rattle.qvt_store.specs.Contents.{Contents, Instance, no_instance, extent_at, extent_of, is_live, members_from, members_of}
 use Rattle.qvt_store.specs.Limits.{most_objects}
 use Rattle.qvt_slots.proofs.Lists.{length-map}
 use Rattle.qvt_store_laws.proofs.Stays.{members-append, stays_more}
@@ -16,7 +16,7 @@ use Rattle.qvt_model.specs.IdTables.{id_in}
 use Rattle.qvt_model.specs.WellFormed.{object_data_at, no_object}
 use Rattle.qvt_model.specs.Extents.{own_id, numbers, place_within}
 use Rattle.qvt_model.specs.RunIds.{place_id, file_id, run_id}
-use Rattle.qvt_model.specs.Loaded.{instance_at, loaded, id_told, IsLoadable, MembersStay, TellsAll, TellsNoOther, AreTold, HaveRunIds, LoadLeaves, EachLoadLeaves, CanLoadEach, object_count, ElsewhereThan, AreApart, AreLoadable, LoadEach}
+use Rattle.qvt_model.specs.Loaded.{instance_at, loaded, id_told, IsLoadable, TellsAll, TellsNoOther, AreTold, LoadLeaves, EachLoadLeaves, object_count, ElsewhereThan, LoadEach}
 use Rattle.qvt_model.proofs.Final.{app_right}
 use Rattle.qvt_model.proofs.RunIds.{none, found, run_ids_stay}
 use Rattle.qvt_model.proofs.Told.{told_past}

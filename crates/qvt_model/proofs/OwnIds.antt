@@ -1,11 +1,9 @@
 -- The ids that a written model gives: they differ, are of the form of ids, and are texts.
-use Rattle.std.proofs.Common.{◌≡◌, ◌∙◌, ℕ, zero, suc, ◌+◌, ◌<◌, ◌≤◌, ◌^◌, ◌==◌, List, [], ◌∷◌, ◌++◌, length, drop, Bool, true, false, not, ◌&&◌, ◌||◌, nat_lt, nat_le, decimal, refl, sym, ap, arith, lt-ltb, ltb-true, le-leb, ne_eqb, IsUtf8}
-use Rattle.std.specs.Prelude.{codes}
+use Rattle.std.proofs.Common.{◌≡◌, ℕ, zero, suc, ◌<◌, ◌≤◌, ◌^◌, ◌==◌, List, [], ◌∷◌, length, drop, Bool, true, false, not, nat_lt, decimal, refl, ap, arith, lt-ltb, ltb-true, le-leb, ne_eqb, IsUtf8}
 use Rattle.std.specs.Char.{digit_value}
 use Rattle.std.specs.List.{list_any, list_all}
-use Rattle.std.specs.Str.{bytes_eq, chars, IsAscii}
+use Rattle.std.specs.Str.{bytes_eq, IsAscii}
 use Rattle.std.specs.Str.Parse.{AllDigits}
-use Rattle.std.proofs.lemmas.Bool.{and_from}
 use Rattle.std.proofs.lemmas.Slice.Eq.{bytes_eq-Decides}
 use Rattle.std.proofs.lemmas.Fmt.{decimal_injective, decimal_is_IsNumeral, IsAscii-decimal, length-decimal-le_wide}
 use Rattle.std.proofs.lemmas.Str.{chars-IsAscii, IsUtf8-from_ascii}

@@ -1,33 +1,32 @@
 -- Each check of what is written for a model finds no fault, and the reading gives the model back.
-use Rattle.std.proofs.Common.{◌≡◌, ◌≢◌, subst, ℕ, ℤ, pos, negsuc, zero, suc, ◌+◌, ◌<◌, ◌≤◌, ◌^◌, List, [], ◌∷◌, length, map, Bool, true, false, not, ◌&&◌, nat_lt, IsTrue, Option, Some, None, option_map, Result, Ok, Err, slice_index_or, refl, sym, ap, ◌∙◌, arith, lt-ltb, IsUtf8}
+use Rattle.std.proofs.Common.{◌≡◌, ◌≢◌, subst, ℕ, ℤ, pos, negsuc, zero, suc, ◌<◌, ◌≤◌, ◌^◌, List, [], ◌∷◌, length, map, Bool, true, false, nat_lt, IsTrue, Option, Some, None, option_map, Ok, refl, sym, ap, ◌∙◌, arith, lt-ltb}
 use Rattle.std.proofs.lemmas.List.{length-map}
-use Rattle.std.specs.Prelude.{⊤, FitsSigned, option_and_then, position}
+use Rattle.std.specs.Prelude.{FitsSigned, position}
 use Rattle.std.specs.Int.{w64}
-use Rattle.std.specs.List.{list_any, AllByRecursion}
+use Rattle.std.specs.List.{AllByRecursion}
 use Rattle.std.specs.Str.{bytes_eq}
-use Rattle.serde_json.specs.Data.{Data, Members}
+use Rattle.serde_json.specs.Data.{Data}
 use Rattle.serde_json.specs.Find.{as_i64, of_integer}
 use Rattle.serde_json.specs.View.{items_of}
 use Rattle.qvt_base.specs.declared.numbers.ClassNo.{ClassNo}
 use Rattle.qvt_value.specs.declared.value.LiteralRef.{LiteralRef}
 use Rattle.qvt_metamodel.specs.declared.info.TypeKind.{TypeKind}
 use Rattle.qvt_metamodel.specs.declared.info.TypeKind.TheVariants.{Bool as BoolKind, Int as IntKind, Str as StrKind, Enum as EnumKind, Class as ClassKind}
-use Rattle.qvt_metas.specs.Metamodels.{Metamodels, class_at, feature_at, shape_of, is_single}
+use Rattle.qvt_metas.specs.Metamodels.{Metamodels, class_at, shape_of, is_single}
 use Rattle.qvt_metas.specs.Descends.{descends}
 use Rattle.qvt_metas.specs.Named.{metamodel_at, class_named, literal_named, literal_at}
 use Rattle.qvt_metas.specs.WellFormed.{IsWellFormed}
 use Rattle.qvt_json.specs.Json.{map_items}
 use Rattle.qvt_json.specs.Leaves.{is_id}
-use Rattle.qvt_model.specs.Reading.{id_of, class_read, feature_of, features_known, object_known, distinct_ids, class_at_place, ref_at, ref_of, literal_in, datum_of, one_item, items_read, slot_read, slots_of, object_read, is_dangling, slots_dangling, dangling, model_from, numbered_class}
-use Rattle.qvt_model.specs.WellFormed.{object_data_at, no_object, ids, none_repeats, IsItem, IsSlot, IsObjectIn, IsModel, HoldsOne, IsStorable}
+use Rattle.qvt_model.specs.Reading.{id_of, class_read, feature_of, features_known, object_known, distinct_ids, class_at_place, ref_at, ref_of, literal_in, datum_of, one_item, items_read, slot_read, slots_of, object_read, is_dangling, slots_dangling, dangling, model_from}
+use Rattle.qvt_model.specs.WellFormed.{object_data_at, no_object, ids, IsItem, IsSlot, IsObjectIn, IsModel, HoldsOne, IsStorable}
 use Rattle.qvt_model.specs.Written.{datum_value, first_value, slot_value, slot_members, written_object, object_values}
 use Rattle.qvt_model.specs.declared.places.Places.{Places}
 use Rattle.qvt_model.specs.declared.data.Datum.{Datum}
 use Rattle.qvt_model.specs.declared.data.Datum.TheVariants.{Bool as BoolDatum, Int, Str, Literal, Ref}
 use Rattle.qvt_model.specs.declared.data.SlotData.{SlotData}
 use Rattle.qvt_model.specs.declared.data.ObjectData.{ObjectData}
-use Rattle.qvt_model.specs.declared.data.ModelFault.{ModelFault}
-use Rattle.qvt_model.proofs.Lists.{All-weaken, All-both, All-index, index-map, list_any-none, each_item-is, each_item-back, walk_items-ok, all_items-back, map_items-is, position-differ, repeated-differ}
+use Rattle.qvt_model.proofs.Lists.{All-weaken, All-both, All-index, index-map, list_any-none, each_item-is, each_item-back, walk_items-ok, all_items-back, position-differ, repeated-differ}
 
 abbrev pub places_of : List ObjectData → Places
 places_of os = record { ids = ids os; classes = map (λ o. o.class) os }

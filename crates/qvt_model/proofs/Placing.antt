@@ -1,22 +1,22 @@
 -- Each slot of a model can be set when its turn comes, and a sound store stays sound but for opposites.
-use Rattle.std.proofs.Common.{◌≡◌, ◌≢◌, ℕ, zero, suc, ◌+◌, ◌<◌, ◌≤◌, Bool, true, false, ◌==◌, ◌||◌, ◌&&◌, cond, inl, inr, ◌⊎◌, refl, sym, ap, ◌∙◌, subst, List, [], ◌∷◌, ◌++◌, map, length, arith}
+use Rattle.std.proofs.Common.{◌≡◌, ℕ, zero, suc, ◌+◌, ◌<◌, ◌≤◌, Bool, true, false, ◌==◌, ◌&&◌, cond, inl, inr, ◌⊎◌, refl, sym, ap, ◌∙◌, subst, List, [], ◌∷◌, ◌++◌, map, length, arith}
 use Rattle.std.specs.Prelude.{slice_index_or, nat_lt, All}
 use Rattle.std.specs.List.{list_all, AllByRecursion}
-use Rattle.std.proofs.lemmas.Bool.{cases_lt, cases_eq, eq-eqb, ne_eqb, lt-ltb, ltb-true}
+use Rattle.std.proofs.lemmas.Bool.{cases_lt, ne_eqb, lt-ltb}
 use Rattle.std.proofs.lemmas.Bool.Decides.{Decides-eqb}
 use Rattle.std.proofs.lemmas.List.{length-set}
 use Rattle.qvt_value.specs.declared.value.Value.{Value}
 use Rattle.qvt_metamodel.specs.declared.info.TypeKind.{TypeKind}
 use Rattle.qvt_metamodel.specs.declared.info.TypeKind.TheVariants.{Bool as BoolKind, Int as IntKind, Str as StrKind, Enum as EnumKind, Class as ClassKind}
-use Rattle.qvt_metas.specs.Metamodels.{Metamodels, features_of, has_feature, shape_of, is_containment}
+use Rattle.qvt_metas.specs.Metamodels.{Metamodels, features_of, has_feature, shape_of}
 use Rattle.qvt_metas.specs.Descends.{descends}
 use Rattle.qvt_metas.specs.Named.{enumeration_at}
-use Rattle.qvt_relation.proofs.Bools.{and_left, and_right, and_both, and_false, or_left, or_right, or_cases, none_left, none_right, either, clash, refuted}
-use Rattle.qvt_store.specs.Slots.{Slots, has, is_object, Contains, Inside, directly, through}
-use Rattle.qvt_store.specs.Contents.{Contents, Instance, no_instance, object_at, is_live, is_model, class_of, extent_of, extent_at, list_of, slot_in, slot_of, with_slot}
+use Rattle.qvt_relation.proofs.Bools.{and_left, and_right, and_both, and_false, or_cases, none_left, none_right, clash, refuted}
+use Rattle.qvt_store.specs.Slots.{has, is_object, Inside, directly, through}
+use Rattle.qvt_store.specs.Contents.{Contents, Instance, no_instance, is_model, extent_of, list_of, slot_in, slot_of}
 use Rattle.qvt_store.specs.Types.{is_of_kind, is_of_type, AreTyped, HasCodeType}
 use Rattle.qvt_store.specs.Repeats.{repeats}
-use Rattle.qvt_store.specs.Assign.{exceeds_bound, crosses}
+use Rattle.qvt_store.specs.Assign.{exceeds_bound}
 use Rattle.qvt_store.specs.Cells.{with_list}
 use Rattle.qvt_slots.proofs.Places.{no_lists, list_of-nil}
 use Rattle.qvt_slots.proofs.Lists.{length-map, past_end}
@@ -29,14 +29,14 @@ use Rattle.qvt_model.specs.declared.data.Datum.{Datum}
 use Rattle.qvt_model.specs.declared.data.Datum.TheVariants.{Bool as BoolDatum, Int, Str, Literal, Ref}
 use Rattle.qvt_model.specs.declared.data.SlotData.{SlotData}
 use Rattle.qvt_model.specs.declared.data.ObjectData.{ObjectData}
-use Rattle.qvt_model.specs.WellFormed.{no_object, IsItem, IsSlot, IsObjectIn, IsModel}
+use Rattle.qvt_model.specs.WellFormed.{IsItem, IsSlot, IsObjectIn, IsModel}
 use Rattle.qvt_model.specs.WellFormed as parts
 use Rattle.qvt_model.specs.Items.{items_in}
-use Rattle.qvt_model.specs.Loaded.{value_at, list_in, instance_at}
+use Rattle.qvt_model.specs.Loaded.{value_at}
 use Rattle.qvt_model.specs.Conforming.{slots_at, Conforms}
 use Rattle.qvt_model.specs.Steps.{put_slot, slot_values, put_slots, put_objects, with_objects, CanPutSlots, CanPutObjects}
 use Rattle.qvt_model.proofs.Shift.{HeldItem, held_item, length-shift, repeats-shift, all_plain}
-use Rattle.qvt_model.proofs.Final.{final, object, at_old, at_new, count, slot-old, slot-new, new_held, one_new, final_acyclic, app_left, app_right, length-app, beyond}
+use Rattle.qvt_model.proofs.Final.{final, object, at_old, at_new, count, slot-new, one_new, final_acyclic, app_left, app_right, length-app, beyond}
 use Rattle.qvt_model.proofs.Filled.{listed, AreDistinct, distinct_slots, empty_of}
 
 -- a reference of a well formed slot is one of the model

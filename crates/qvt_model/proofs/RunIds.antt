@@ -1,11 +1,11 @@
 -- The ids in the data of a writable extent are those of the run, and an object keeps its id.
 use Rattle.std.proofs.Common.{◌≡◌, ℕ, zero, suc, ◌+◌, ◌<◌, ◌≤◌, Bool, true, false, ◌==◌, not, cond, refl, sym, ap, ◌∙◌, subst, List, [], ◌∷◌, length, length-append, get_or, arith}
-use Rattle.std.specs.Prelude.{Option, Some, None, nat_lt, slice_index_or}
+use Rattle.std.specs.Prelude.{Some, None, nat_lt, slice_index_or}
 use Rattle.std.specs.List.{AllByRecursion, position_or_len}
 use Rattle.std.proofs.lemmas.Bool.{eq-eqb, ne_eqb, lt-ltb, ltb-true}
 use Rattle.qvt_base.specs.declared.numbers.Oid.{Oid}
 use Rattle.qvt_slots.proofs.Lists.{length-map}
-use Rattle.qvt_store.specs.Contents.{Contents, Instance, no_instance, no_extent, extent_at, extent_of, is_writable, members_from, members_of}
+use Rattle.qvt_store.specs.Contents.{Instance, no_instance, no_extent, extent_at, extent_of, is_writable, members_from, members_of}
 use Rattle.qvt_store.specs.Stay.{IsBeginningOf}
 use Rattle.qvt_store_laws.proofs.Stays.{get-left}
 use Rattle.qvt_model.specs.Extents.{own_id, numbers, place_within, data_of}

@@ -1,12 +1,11 @@
 -- The values of items where the first object of a model has number n, against those where it has number 0.
-use Rattle.std.proofs.Common.{◌≡◌, ℕ, suc, ◌+◌, ◌<◌, Bool, true, false, ◌==◌, ◌||◌, ◌&&◌, inl, inr, refl, sym, ap, ◌∙◌, subst, List, [], ◌∷◌, map, length, arith}
-use Rattle.std.specs.List.{list_any, list_all, AllByRecursion}
+use Rattle.std.proofs.Common.{◌≡◌, ℕ, suc, ◌+◌, true, false, ◌==◌, ◌||◌, inl, inr, refl, sym, ap, ◌∙◌, List, [], ◌∷◌, map, length, arith}
+use Rattle.std.specs.List.{AllByRecursion}
 use Rattle.std.specs.Prelude.{All}
-use Rattle.std.proofs.lemmas.Bool.{cases_eq, eq-eqb, ne_eqb, lt-ltb}
+use Rattle.std.proofs.lemmas.Bool.{cases_eq, eq-eqb, ne_eqb}
 use Rattle.std.proofs.lemmas.Bool.Decides.{Decides-eqb}
 use Rattle.std.proofs.lemmas.List.Elements.{All-nil, All-cons}
-use Rattle.qvt_value.specs.declared.value.Value.{Value}
-use Rattle.qvt_relation.proofs.Bools.{or_left, or_right, or_cases, and_both, clash}
+use Rattle.qvt_relation.proofs.Bools.{or_left, or_right, or_cases, clash}
 use Rattle.qvt_store.specs.Slots.{is_object, has}
 use Rattle.qvt_store.specs.Types.{HasCodeType}
 use Rattle.qvt_value.specs.Kept.{is_same}

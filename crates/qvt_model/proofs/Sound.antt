@@ -1,7 +1,6 @@
 -- What is read as a model has the parts that a model has.
-use Rattle.std.proofs.Common.{◌&&◌, ◌≡◌, ◌∙◌, ℕ, zero, suc, ◌<◌, ◌≤◌, List, [], ◌∷◌, length, map, Bool, true, false, cond, not, nat_lt, IsTrue, IsUtf8, Option, Some, None, option_map, Greater, Result, Ok, Err, slice_index_or, position, find, refl, sym, ap, subst, arith, ltb-true, lt-ltb, ◌==◌}
-use Rattle.std.specs.Prelude.{⊤, option_and_then, is_some, FitsSigned, codes}
-use Rattle.std.specs.Int.{w64}
+use Rattle.std.proofs.Common.{◌&&◌, ◌≡◌, ◌∙◌, ℕ, zero, suc, ◌<◌, List, [], ◌∷◌, length, map, Bool, true, false, cond, not, nat_lt, IsTrue, Option, Some, None, option_map, Greater, Ok, slice_index_or, position, refl, sym, ap, subst, arith, ltb-true, ◌==◌}
+use Rattle.std.specs.Prelude.{option_and_then, is_some, codes}
 use Rattle.std.specs.Ordering.{nat_cmp}
 use Rattle.std.specs.Cmp.Lexicographic.{slice_cmp}
 use Rattle.std.specs.List.{list_any, AllByRecursion}
@@ -14,7 +13,6 @@ use Rattle.serde_json.specs.Data.{Data, Items, Members, no_members, member}
 use Rattle.serde_json.specs.Find.{as_null, as_bool, as_str, as_number, as_i64, as_array}
 use Rattle.qvt_base.specs.declared.numbers.ClassNo.{ClassNo}
 use Rattle.qvt_base.specs.declared.numbers.FeatureNo.{FeatureNo}
-use Rattle.qvt_value.specs.declared.value.LiteralRef.{LiteralRef}
 use Rattle.qvt_metamodel.specs.declared.info.TypeKind.{TypeKind}
 use Rattle.qvt_metamodel.specs.declared.info.TypeKind.TheVariants.{Bool as BoolKind, Int as IntKind, Str as StrKind, Enum as EnumKind, Class as ClassKind}
 use Rattle.qvt_metas.specs.Metamodels.{Metamodels, class_at, feature_at, shape_of, is_single, features_of, has_feature, nowhere_class}
@@ -25,18 +23,17 @@ use Rattle.qvt_json.specs.Leaves.{is_id}
 use Rattle.qvt_json.specs.Plain.{KeysAfter}
 use Rattle.qvt_json.specs.Repeated.{repeated}
 use Rattle.qvt_results.specs.Bind.{◌>>=◌}
-use Rattle.qvt_json.specs.Steps.{or_fault, none_of, or_next, each_item, walk_items, all_items}
-use Rattle.qvt_json.proofs.Ordered.{some-injective, both-some, map-some, IsOrdered, ItemsOrdered, MembersOrdered, members_or-ordered}
+use Rattle.qvt_json.specs.Steps.{or_fault, none_of, each_item, walk_items, all_items}
+use Rattle.qvt_json.proofs.Ordered.{some-injective, both-some, map-some, ItemsOrdered, MembersOrdered, members_or-ordered}
 use Rattle.qvt_model.specs.Reading.{id_of, slots_in, numbered_class, distinct_ids, class_read, feature_of, object_known, class_at_place, ref_at, ref_of, literal_in, datum_of, one_item, items_read, slot_read, has_items, with_filled_slot, slots_of, object_read, is_dangling, slots_dangling, dangling, model_from}
 use Rattle.qvt_model.specs.WellFormed.{object_data_at, no_object, ids, none_repeats, IsItem, IsPlainDatum, IsPlainSlot, IsPlainObject, IsSlot, ComeAfter, AreInNameOrder, IsObjectIn, IsModel}
 use Rattle.qvt_model.specs.declared.places.Places.{Places}
 use Rattle.qvt_model.specs.declared.data.Datum.{Datum}
-use Rattle.qvt_model.specs.declared.data.Datum.TheVariants.{Bool as BoolDatum, Int, Str, Literal, Ref}
+use Rattle.qvt_model.specs.declared.data.Datum.TheVariants.{Bool as BoolDatum, Int, Str, Ref}
 use Rattle.qvt_model.specs.declared.data.SlotData.{SlotData}
 use Rattle.qvt_model.specs.declared.data.ObjectData.{ObjectData}
-use Rattle.qvt_model.specs.declared.data.ModelFault.{ModelFault}
 use Rattle.qvt_model.specs.declared.data.ModelFault.TheVariants.{SameId, UnknownClass, UnknownFeature, WrongValue, DanglingId}
-use Rattle.qvt_model.proofs.Lists.{All-weaken, All-both, index-map}
+use Rattle.qvt_model.proofs.Lists.{index-map}
 use Rattle.qvt_model.proofs.Steps.{ok-injective, ok-bind, ok-or_fault, ok-none_of, neither, each_item-through, each_item-map, each_item-all, all_items-all, find-some, find-any, differ-repeated}
 
 not-false : (b : Bool) → not b ≡ false → b ≡ true

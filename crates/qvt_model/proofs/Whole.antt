@@ -1,17 +1,17 @@
 -- The value that is written for a model has the form of a model, is plain, and nests little; so its text is read as the model.
-use Rattle.std.proofs.Common.{◌≡◌, ◌≢◌, ℕ, ℤ, pos, negsuc, zero, suc, ◌+◌, ◌<◌, ◌≤◌, ◌^◌, List, [], ◌∷◌, length, map, Bool, true, false, IsTrue, Some, None, Ok, slice_index_or, refl, sym, ap, ◌∙◌, arith, IsUtf8}
+use Rattle.std.proofs.Common.{◌≡◌, ◌≢◌, ℕ, ℤ, pos, negsuc, zero, suc, ◌<◌, ◌≤◌, ◌^◌, List, [], ◌∷◌, map, Bool, true, false, IsTrue, Some, None, Ok, refl, arith, IsUtf8}
 use Rattle.std.specs.Prelude.{codes, FitsSigned}
 use Rattle.std.specs.Int.{w64}
 use Rattle.std.specs.List.{AllByRecursion}
 use Rattle.std.proofs.lemmas.Str.{IsUtf8-nil, IsUtf8-from_is_utf8}
 use Rattle.json.proofs.Printed.Utf8.{IsUtf8-are_ascii}
-use Rattle.serde_json.specs.Data.{Data, depth, items_depth, members_depth}
+use Rattle.serde_json.specs.Data.{depth, items_depth, members_depth}
 use Rattle.serde_json.specs.Find.{of_integer}
 use Rattle.serde_json.specs.Read.{max_depth}
 use Rattle.serde_json.specs.View.{items_of}
 use Rattle.qvt_metamodel.specs.declared.info.TypeKind.{TypeKind}
 use Rattle.qvt_metamodel.specs.declared.info.TypeKind.TheVariants.{Bool as BoolKind, Int as IntKind, Str as StrKind, Enum as EnumKind, Class as ClassKind}
-use Rattle.qvt_metas.specs.Metamodels.{Metamodels, class_at, feature_at, shape_of, is_single}
+use Rattle.qvt_metas.specs.Metamodels.{Metamodels, feature_at, shape_of, is_single}
 use Rattle.qvt_metas.specs.Named.{metamodel_at}
 use Rattle.qvt_metas.specs.WellFormed.{IsWellFormed}
 use Rattle.qvt_json.specs.Json.{json}
@@ -21,7 +21,7 @@ use Rattle.qvt_json.specs.Leaves.{is_id}
 use Rattle.qvt_json.proofs.Back.{json-file_text}
 use Rattle.qvt_model.specs.Forms.{object_form, model_form}
 use Rattle.qvt_model.specs.Reading.{model_of}
-use Rattle.qvt_model.specs.WellFormed.{object_data_at, no_object, IsItem, IsPlainDatum, IsPlainSlot, IsPlainObject, IsSlot, ComeAfter, AreInNameOrder, IsObjectIn, IsModel, IsStorable}
+use Rattle.qvt_model.specs.WellFormed.{object_data_at, IsItem, IsPlainDatum, IsPlainSlot, IsPlainObject, IsSlot, ComeAfter, AreInNameOrder, IsObjectIn, IsModel, IsStorable}
 use Rattle.qvt_model.specs.Written.{datum_value, first_value, slot_value, slot_members, written_object, model_value, model_text}
 use Rattle.qvt_model.specs.declared.data.Datum.{Datum}
 use Rattle.qvt_model.specs.declared.data.Datum.TheVariants.{Bool as BoolDatum, Int, Str, Literal, Ref}

@@ -1,7 +1,6 @@
 -- Lists of values, step by step.
 use Rattle.std.proofs.Common.{◌≡◌, ◌∙◌, ℕ, ◌+◌, ◌<◌, Bool, true, false, ◌||◌, not, cond, refl, sym, ap, List, [], ◌∷◌, ◌++◌, append-nil, append_assoc, map, length, take, drop, get_or}
-use Rattle.std.specs.Prelude.{Option, Some, None, slice_get}
-use Rattle.std.specs.List.{list_any, fold}
+use Rattle.std.specs.List.{list_any}
 use Rattle.std.specs.Prelude.{nat_lt}
 use Rattle.std.proofs.lemmas.List.{take_more, at_drop_more}
 use Rattle.std.proofs.lemmas.List.Elements.{filter-append}
@@ -12,10 +11,9 @@ use Rattle.std.specs.declared.cmp.Ordering.TheVariants.{Less, Equal, Greater}
 use Rattle.qvt_value.specs.Order.{order_of}
 use Rattle.indexmap.specs.IndexSet.{insert_key}
 use Rattle.qvt_base.specs.declared.numbers.Place.{Place}
-use Rattle.qvt_value.specs.declared.value.Value.{Value, Coll', Invalid, Row_of-Value, end_of-Value, more_of-Value, items-the_row-Value, items_hidden-the_row-Value-0}
+use Rattle.qvt_value.specs.declared.value.Value.{Value, Coll', Row_of-Value, end_of-Value, more_of-Value, items-the_row-Value, items_hidden-the_row-Value-0}
 use Rattle.qvt_value.specs.declared.value.Value.TheViews.{Coll}
 use Rattle.qvt_value.specs.declared.value.Kind.{Kind}
-use Rattle.qvt_value.specs.declared.value.Reason.TheVariants.{EmptySource}
 use Rattle.qvt_value.specs.contracts.value.ValuePartialEq.TheImpl as equality
 use Rattle.qvt_value.proofs.OrderOfValues.{alike, exact}
 use Rattle.qvt_ocl_words.specs.Lists.{same, has, count, common_after, innermost, flattened, flattened_row, first_of, last_of, lacking}

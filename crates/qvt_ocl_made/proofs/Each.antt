@@ -1,14 +1,12 @@
 -- What holds of each item of a list holds of each item of the lists that are made of it.
-use Rattle.std.proofs.Common.{◌≡◌, ℕ, zero, suc, ◌+◌, ◌-◌, Bool, true, false, not, cond, List, [], ◌∷◌, ◌++◌, map, take, drop, reverse, refl, sym, subst}
+use Rattle.std.proofs.Common.{ℕ, zero, suc, ◌+◌, ◌-◌, Bool, true, false, not, cond, List, [], ◌∷◌, ◌++◌, take, drop, reverse}
 use mathlib.Core.List.{reverse_aux}
-use Rattle.std.specs.Prelude.{⊤, nat_lt, filter, slice_index_or, slice_range, encode_utf8, Option, Some, None, IfSome}
+use Rattle.std.specs.Prelude.{nat_lt, filter, slice_index_or, slice_range, Some, IfSome}
 use Rattle.std.specs.List.{AllByRecursion, fold, insert, find}
 use Rattle.std.specs.Ordering.{is_lt}
-use Rattle.qvt_base.specs.declared.numbers.Place.{Place}
-use Rattle.qvt_value.specs.declared.value.Value.{Value, Invalid}
+use Rattle.qvt_value.specs.declared.value.Value.{Value}
 use Rattle.qvt_value.specs.declared.value.Kind.{Kind}
 use Rattle.qvt_value.specs.declared.value.Kind.TheVariants.{Set, Bag, Sequence, OrderedSet}
-use Rattle.qvt_value.specs.declared.value.Reason.TheVariants.{EmptySource}
 use Rattle.qvt_value.specs.Kept.{put_in, sorted, firsts, is_same}
 use Rattle.qvt_value.specs.Make.{made}
 use Rattle.qvt_value.specs.Order.{order_of}

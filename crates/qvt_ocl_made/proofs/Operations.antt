@@ -1,16 +1,15 @@
 -- What an operation gives of values as made is as made, a line an operation.
-use Rattle.std.proofs.Common.{◌≡◌, ℕ, ◌+◌, ◌-◌, Bool, true, false, ◌&&◌, ◌==◌, not, cond, ◌+ℤ◌, ◌-ℤ◌, ◌*ℤ◌, neg_ℤ, ℤ, pos, List, [], ◌∷◌, ◌++◌, map, drop, length, reverse, refl}
-use Rattle.std.specs.Prelude.{⊤, unsigned_abs, int_div, int_rem, slice_index, slice_index_or, slice_range, encode_utf8, Option, Some, None, IfSome, All}
+use Rattle.std.proofs.Common.{ℕ, ◌+◌, ◌-◌, Bool, true, false, ◌&&◌, ◌==◌, cond, ◌+ℤ◌, ◌-ℤ◌, ◌*ℤ◌, neg_ℤ, ℤ, pos, List, [], ◌∷◌, ◌++◌, map, drop, length, reverse, refl}
+use Rattle.std.specs.Prelude.{unsigned_abs, int_div, int_rem, slice_index, slice_index_or, slice_range, encode_utf8, Option, Some, None, IfSome}
 use Rattle.std.specs.Option.{option_map}
-use Rattle.std.specs.List.{AllByRecursion, list_any, list_all, fold, insert, find}
+use Rattle.std.specs.List.{list_any, list_all, fold, insert, find}
 use Rattle.std.specs.Str.{chars, encode_utf8_all}
 use Rattle.std.proofs.lemmas.List.Elements.{recursion_from_All}
 use Rattle.qvt_base.specs.declared.numbers.Place.{Place}
 use Rattle.qvt_value.specs.declared.value.Value.{Value, Null, Bool as Truth, Int, Str, Coll', Invalid, Row_of-Value, end_of-Value, more_of-Value, items-the_row-Value}
-use Rattle.qvt_value.specs.declared.value.Value.TheViews.{Coll}
 use Rattle.qvt_value.specs.declared.value.Kind.{Kind}
 use Rattle.qvt_value.specs.declared.value.Kind.TheVariants.{Set, Bag, Sequence, OrderedSet}
-use Rattle.qvt_value.specs.declared.value.Reason.TheVariants.{Overflow, ZeroDivide, BadIndex, BadNumber, NullSource, NullValue, EmptySource, TooLarge}
+use Rattle.qvt_value.specs.declared.value.Reason.TheVariants.{Overflow, ZeroDivide, BadIndex, BadNumber, NullSource, NullValue, TooLarge}
 use Rattle.qvt_value.specs.Limits.{is_beyond, limited}
 use Rattle.qvt_value.specs.Make.{is_invalid}
 use Rattle.qvt_ocl_words.specs.declared.op.Op.{Op}

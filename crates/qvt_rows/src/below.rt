@@ -23,7 +23,7 @@ fn row_of_one(alloc: Global, class: u32) -> Result<Row, ListFault>
     ensures within { IfOk result (EndsWithin (class + 1)) }
     ensures own { IfOk result (λ r. (d : ℕ) → is_marked r d ≡ (class == d)) }
 {
-    let mut words = Seq::new(alloc);
+    let mut words = Seq::with_room(alloc, 1)?;
     words.push(bit_of(class))?;
     Ok(Row {
         start: 0,
@@ -38,7 +38,7 @@ fn own_rows(alloc: Global, count: u32) -> Result<Vec<Row>, ListFault>
     ensures within { IfOk result (λ v. (c : ℕ) → EndsWithin count (slice_index_or v.items c no_row)) }
     ensures own { IfOk result (λ v. (c : ℕ) → c < count → (d : ℕ) → is_marked (slice_index_or v.items c no_row) d ≡ (c == d)) }
 {
-    let mut rows = Seq::new(alloc);
+    let mut rows = Seq::with_room(alloc, count as usize)?;
     for class in 0..count {
         rows.push(row_of_one(alloc, class)?)?;
     }

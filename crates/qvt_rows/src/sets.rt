@@ -46,7 +46,7 @@ pub fn united(alloc: Global, bound: u32, one: &Row, other: &Row) -> Result<Row, 
 {
     let end = end_of(one, bound).max(end_of(other, bound));
     let first = first_word(first_word(end, one), other);
-    let mut words = Seq::new(alloc);
+    let mut words = Seq::with_room(alloc, end.saturating_sub(first) as usize)?;
     for place in first..end {
         words.push(word_of(one, place) | word_of(other, place))?;
     }
@@ -124,7 +124,7 @@ pub fn without(alloc: Global, bound: u32, one: &Row, other: &Row) -> Result<Row,
     ensures marks { IfOk result (λ r. (d : ℕ) → is_marked r d ≡ (is_marked one.now d && not (is_marked other.now d))) }
     ensures within { IfOk result (λ r. EndsWithin bound r) }
 {
-    let mut words = Seq::new(alloc);
+    let mut words = Seq::with_room(alloc, one.words.len())?;
     for place in one.skipped..end_of(one, bound) {
         words.push(word_without(word_of(one, place), word_of(other, place)))?;
     }

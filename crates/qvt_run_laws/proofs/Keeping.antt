@@ -79,9 +79,6 @@ module _ {E : Type 0} where
     records = (h.records.0 ++ k.records.0, k.records.1 ∙ ap (λ rs. rs ++ k.records.0) h.records.1 ∙ append_assoc s.trace h.records.0 k.records.0);
   }
 
-  steady : {A : Type 0} (p : Does E A) → ((s : State E) → (p s).1.trace ≡ s.trace) → ((s : State E) → (p s).1.keys ≡ s.keys) → Kept A p p
-  steady p e k = λ s h. same s (p s).1 (e s) (k s) h
-
   after : {A B : Type 0} (f : A → Does E B) → ((a : A) → Kept B (f a) (f a)) → (s : State E) (r : Result A Exit) (t : State E) → Keeps s t → Keeps s (on_outcome r t f).1
   after f k s (Ok a) t h = chain s t (f a t).1 h (k a t h.keyed)
   after f k s (Err e) t h = h

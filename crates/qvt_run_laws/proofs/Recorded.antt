@@ -17,7 +17,7 @@ use Rattle.qvt_run_data.specs.declared.record.Record.{Record}
 use Rattle.qvt_run_rules.specs.State.{State, Done, Does, on_outcome, ◌>>=◌, pure, caught}
 use Rattle.qvt_run_rules.specs.Locals.{result_name, begun, own_in, in_own, set}
 use Rattle.qvt_run_rules.specs.Mappings as of
-use Rattle.qvt_run_rules.specs.Mappings.{MappingRule, ResultClass, MadeResult, Known, Ended, New, BegunCall, key}
+use Rattle.qvt_run_rules.specs.Mappings.{MappingRule, ResultClass, MadeResult, Ended, New, BegunCall, key}
 use Rattle.qvt_meaning.specs.Laws.{keys_differ, OneRecord, request_run, answered_from, from_requests}
 use Rattle.qvt_meaning.specs.Plain.{state_of}
 use Rattle.qvt_meaning.specs.Run.{Finish, AnsweredWrite, FinishedRun, setting, main_in, main_run, finish_of, walk, patched, finished_as, carried_out, late_value}

@@ -1,15 +1,15 @@
 -- A change that is carried out keeps the store whole and gives the store after the change.
 use Rattle.std.proofs.Common.{◌≡◌, ℕ, zero, suc, ◌<◌, ◌≤◌, Bool, true, false, ◌||◌, ◌&&◌, ◌==◌, not, cond, ◌⊎◌, inl, inr, refl, sym, ap, ◌∙◌, subst, List, [], ◌∷◌, ◌++◌, map, length, get_or, arith}
-use Rattle.std.specs.Prelude.{All, slice_index_or, Option, Some, None}
+use Rattle.std.specs.Prelude.{All, Option, Some, None}
 use Rattle.std.specs.List.{list_all, flat_map}
-use Rattle.std.proofs.lemmas.List.{same_lists, get_or-map, get_or_default}
+use Rattle.std.proofs.lemmas.List.{same_lists, get_or_default}
 use Rattle.std.proofs.lemmas.List.Elements.{All-head, All-tail}
 use Rattle.std.proofs.lemmas.Bool.{cases_lt, ltb-true}
 use Rattle.std.proofs.lemmas.Bool.Decides.{Decides-eqb}
 use Rattle.qvt_base.specs.declared.numbers.FeatureNo.{FeatureNo}
 use Rattle.qvt_base.specs.declared.numbers.Oid.{Oid}
 use Rattle.qvt_value.specs.declared.value.Value.{Value}
-use Rattle.qvt_metas.specs.Metamodels.{Metamodels, features_of, among_features, is_containment}
+use Rattle.qvt_metas.specs.Metamodels.{Metamodels, features_of, is_containment}
 use Rattle.qvt_metas.specs.WellFormed.{IsWellFormed}
 use Rattle.qvt_relation.proofs.Bools.{and_left, and_right, and_both, or_cases, or_left, or_right, not_true, not_of_false, either, clash, refuted}
 use Rattle.qvt_slots.specs.declared.cell.Holder.{Holder}
@@ -27,10 +27,9 @@ use Rattle.qvt_slots.specs.Repeats.{repeats}
 use Rattle.qvt_slots.specs.Assign.{change_to, instance_after, instances_after, store_after}
 use Rattle.qvt_store_laws.specs.Law.{HasDifferences}
 use Rattle.qvt_store.specs.Draft.{change_with, drafted, IsDraft}
-use Rattle.qvt_slots.specs.Cells.{instances, instance_in, contents_of, holder_at, holder_in, AreWhole, IsStoreKept, IsPlaceOf, SameObjects, IsPut, with_list}
+use Rattle.qvt_slots.specs.Cells.{instances, instance_in, contents_of, holder_at, holder_in, AreWhole, IsStoreKept, SameObjects, IsPut, with_list}
 use Rattle.qvt_slots.specs.Writes.{IsWrite, AllLive, written, or_else, held_by, last_holder, held_here, holder_after, IsSettled, released_by, released_here}
 use Rattle.qvt_store.specs.Plan.{is_write_of, listed, IsRight, IsPlan}
-use Rattle.qvt_slots.proofs.Places.{list_of-place}
 use Rattle.qvt_slots.proofs.Cells.{length-instances, no_holder}
 use Rattle.qvt_slots.proofs.Objects.{beyond-is}
 use Rattle.qvt_store_laws.proofs.Held.{given, kept, gained, held_after, added_new, adds}

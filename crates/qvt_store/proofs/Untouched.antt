@@ -1,17 +1,12 @@
 -- A slot that no rule names has the list that it had.
-use Rattle.std.proofs.Common.{◌≡◌, ℕ, Bool, true, false, ◌||◌, ◌&&◌, ◌==◌, not, cond, inl, inr, refl, ap, ◌∙◌, subst, List, [], ◌∷◌}
-use Rattle.std.specs.Prelude.{Option, Some, None, filter}
-use Rattle.std.specs.List.{list_any}
-use Rattle.std.proofs.lemmas.Bool.Decides.{Decides-eqb}
+use Rattle.std.proofs.Common.{◌≡◌, ℕ, true, false, refl, ap, ◌∙◌, subst, List, []}
 use Rattle.std.proofs.lemmas.List.Elements.{All-nil}
-use Rattle.qvt_base.specs.declared.numbers.FeatureNo.{FeatureNo}
-use Rattle.qvt_value.specs.declared.value.Value.{Value}
-use Rattle.qvt_metas.specs.Metamodels.{opposite, is_opposite, is_feature_number, is_containment}
+use Rattle.qvt_metas.specs.Metamodels.{is_opposite, is_containment}
 use Rattle.qvt_metas.specs.WellFormed.{IsWellFormed}
-use Rattle.qvt_relation.proofs.Bools.{and_left, and_right, and_false, and_false_left, or_left, or_right, or_cases, or_none, none_left, none_right, none_of, refuted, clash}
+use Rattle.qvt_relation.proofs.Bools.{clash}
 use Rattle.qvt_slots.specs.declared.commit.Write.{Write}
-use Rattle.qvt_slots.specs.Slots.{Slots, object_in, passes, is_object, has}
-use Rattle.qvt_slots.specs.Change.{Change, is_some_object, among_objects, is_here, is_added, is_removed, names_containment, is_container, gains, is_taken, is_replaced, is_moved_in, is_moved, leaves, is_left, loses, keeps, with_end, slot_elsewhere}
+use Rattle.qvt_slots.specs.Slots.{Slots, has}
+use Rattle.qvt_slots.specs.Change.{Change, is_here, keeps}
 use Rattle.qvt_slots.specs.Contents.{Contents, is_slot, slot_of}
 use Rattle.qvt_store.specs.Plan.{listed, IsRight, Plans, holding, opposed, IsOpposed, before, after, owner, IsRehoused, items, itself, IsPlan}
 use Rattle.qvt_store_laws.proofs.Touched.{Touched, touched_itself, opposite_old, opposite_new, other_owner, old_container, old_container_end, own_container, own_container_end, untouched}

@@ -9,7 +9,6 @@ use Rattle.qvt_metas.specs.WellFormed.{IsWellFormed}
 use Rattle.qvt_metamodel.proofs.Regular.{regular_of}
 use Rattle.qvt_relation.proofs.Bools.{and_left, and_right, either, clash}
 use Rattle.qvt_slots.specs.declared.op.SetOp.TheVariants.{Put, Add}
-use Rattle.qvt_slots.specs.Slots.{has}
 use Rattle.qvt_slots.specs.Change.{Change, is_here, is_added, slot_elsewhere, slot_after}
 use Rattle.qvt_slots.specs.Contents.{Contents, AreNamed, Instance, no_instance, no_extent, object_at, class_of, extent_of, extent_at, is_live, is_model, is_named, is_slot, is_writable, slot_of}
 use Rattle.qvt_slots.specs.Types.{is_of_type, IsAssignable}

@@ -1,16 +1,15 @@
 -- What a store that grew or was changed says of the objects that were there before.
 use Rattle.std.proofs.Common.{◌≡◌, ℕ, zero, suc, ◌+◌, ◌<◌, Bool, true, false, ◌==◌, cond, inl, inr, refl, sym, ap, ◌∙◌, subst, List, [], ◌∷◌, ◌++◌, map, length, get_or, arith, append_assoc, append-nil, length-append}
-use Rattle.std.specs.Prelude.{nat_lt, slice_set, Ok}
+use Rattle.std.specs.Prelude.{nat_lt, slice_set}
 use Rattle.std.proofs.lemmas.Bool.{cases_eq, lt-ltb, ltb-true}
 use Rattle.std.proofs.lemmas.List.{get_or-set_same, get_or-set_other, length-set}
 use Rattle.qvt_base.specs.declared.numbers.Oid.{Oid}
 use Rattle.qvt_value.specs.declared.value.Value.{Value}
 use Rattle.qvt_metas.specs.Metamodels.{features_of, has_feature}
 use Rattle.qvt_slots.specs.declared.op.SetOp.TheVariants.{Put, Add}
-use Rattle.qvt_slots.specs.Contents.{Contents, Instance, no_instance, object_at, class_of, extent_of, is_live, members_from, members_of, set_slot, slot_of, with_new, with_slot}
-use Rattle.qvt_slots.specs.Types.{IsAssignable}
+use Rattle.qvt_slots.specs.Contents.{Contents, Instance, no_instance, object_at, class_of, extent_of, is_live, members_from, members_of, set_slot, slot_of, with_slot}
 use Rattle.qvt_slots.specs.Change.{Change}
-use Rattle.qvt_slots.specs.Assign.{instances_after, instance_after, store_after, change_of, refusal_of, assign}
+use Rattle.qvt_slots.specs.Assign.{instances_after, store_after, change_of, refusal_of}
 use Rattle.qvt_store_laws.specs.Stay.{IsBeginningOf, StaysIn, StaysIsReflexive, StaysIsTransitive, AddStays, AssignStays, AppendStays, WriteStays}
 use Rattle.qvt_slots.proofs.Typed.{all_kept}
 use Rattle.qvt_slots.proofs.Members.{members_same}

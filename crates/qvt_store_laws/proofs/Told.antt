@@ -1,5 +1,5 @@
 -- A list of lists is told by the slots.
-use Rattle.std.proofs.Common.{◌≡◌, ℕ, zero, suc, ◌<◌, Bool, true, ◌==◌, refl, sym, ap, ◌∙◌, subst, List, [], ◌∷◌, map, length, arith}
+use Rattle.std.proofs.Common.{◌≡◌, ℕ, zero, suc, ◌<◌, true, ◌==◌, refl, sym, ap, ◌∙◌, subst, List, [], ◌∷◌, map, length, arith}
 use Rattle.std.specs.Prelude.{slice_index_or}
 use Rattle.std.proofs.lemmas.List.{same_lists, get_or-map, get_or_default}
 use Rattle.std.proofs.lemmas.Bool.Decides.{Decides-eqb}

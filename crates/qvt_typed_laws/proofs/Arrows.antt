@@ -14,7 +14,7 @@ use Rattle.qvt_types_data.specs.declared.ty.Ty.{Ty}
 use Rattle.qvt_types_data.specs.declared.variable.VariableSort.TheVariants as sort
 use Rattle.qvt_types_data.specs.declared.note.Note.{Note}
 use Rattle.qvt_types_laws.specs.Join as join
-use Rattle.qvt_types_laws.specs.Join.{NoteTaker, next_note, join_sign, join_signs}
+use Rattle.qvt_types_laws.specs.Join.{NoteTaker, next_note}
 use Rattle.qvt_types_states.specs.Judge.{Judges, ◌>>=◌, gives, checked, writes_nothing}
 use Rattle.qvt_types_states.specs.Scopes.{found, is_known}
 use Rattle.qvt_types_states.specs.declared.scope.Known.{Known}

@@ -17,7 +17,7 @@ use Rattle.qvt_typed_laws.specs.Numbers as numbers
 use Rattle.qvt_types_data.specs.declared.note.Note.{Note}
 use Rattle.qvt_types_data.specs.declared.variable.VariableSort.TheVariants as sort
 use Rattle.qvt_types_laws.specs.Join as join
-use Rattle.qvt_types_laws.specs.Join.{NoteTaker, next_note}
+use Rattle.qvt_types_laws.specs.Join.{next_note}
 use Rattle.qvt_types_laws.specs.JoinModule as join_module
 use Rattle.qvt_types_nodes.specs.Module.{TypedClassOf, TypedMainOf, TypedHelperOf, TypedConstructorOf, TypedMappingOf, TypedModuleTerm}
 use Rattle.qvt_types_states.specs.Judge.{Judges}

@@ -52,9 +52,9 @@ use Rattle.qvt_typed_laws.proofs.Contexts.{TypedHeads, TypedContext}
 use Rattle.qvt_typed_laws.proofs.Every.{Every}
 use Rattle.qvt_typed_laws.proofs.Keeps.{SomeTy, Anything, Keeps, weak, next, given, numbered, looked, sourced, inside, telling, checking, either, declaring, settling, marking, blank, not_told}
 use Rattle.qvt_typed_laws.proofs.Rulings as rulings
-use Rattle.qvt_typed_laws.proofs.Rulings.{Readable, readable_read, or_first, IsClass, class_there, class_typed, class_type_some, has_no_type}
+use Rattle.qvt_typed_laws.proofs.Rulings.{IsClass, class_typed, class_type_some, has_no_type}
 use Rattle.qvt_typed_laws.proofs.Solid as solid
-use Rattle.qvt_typed_laws.proofs.Solid.{Solid, Typed, solid_read}
+use Rattle.qvt_typed_laws.proofs.Solid.{Solid, Typed}
 use Rattle.qvt_typed_laws.proofs.Rules.{settled_solid, answered, marked_some, effect, ruled, stepped, in_order, all_types, none_untyped, HasType, known_some, named_class, Behind}
 
 abbrev pub TypedHeading : Heading → Type 0

@@ -10,7 +10,7 @@ use Rattle.qvt_metas.specs.Metamodels.{Metamodels, among_features, each_once, fe
 use Rattle.qvt_metamodel.specs.Names.{is_among}
 use Rattle.qvt_metamodel.specs.declared.info.ClassInfo.{ClassInfo}
 use Rattle.qvt_metamodel.specs.declared.info.FeatureShape.{FeatureShape}
-use Rattle.qvt_meta_tables.specs.Tables.{of_classes}
+use Rattle.qvt_metas.specs.Tables.{of_classes}
 use Rattle.qvt_tree_types.specs.Module.{TypedName, ClassTerm, UnitTerm, ClassOf, MainOf, HelperOf, ConstructorOf, MappingOf}
 use Rattle.qvt_types_data.specs.declared.refusal.TypingRefusal.{TypingRefusal}
 use Rattle.qvt_types_data.specs.declared.refusal.RefusalKind.TheVariants.{SameName}

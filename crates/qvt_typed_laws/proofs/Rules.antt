@@ -40,7 +40,7 @@ use Rattle.qvt_typed_laws.proofs.Contexts.{TypedContext}
 use Rattle.qvt_typed_laws.proofs.Every.{Every, none, first, others, every_last, every_none}
 use Rattle.qvt_typed_laws.proofs.Keeps.{SomeTy, Anything, Keeps, weak, with, next, given, numbered, looked, checking, either, Settles, settling, is_read, answering, marking, blank}
 use Rattle.qvt_typed_laws.proofs.Rulings as rulings
-use Rattle.qvt_typed_laws.proofs.Rulings.{Readable, readable_read, or_first, IsClass, class_there, class_typed, class_type_some, has_no_type}
+use Rattle.qvt_typed_laws.proofs.Rulings.{Readable, readable_read, or_first, IsClass, class_there, class_typed}
 use Rattle.qvt_typed_laws.proofs.Solid as solid
 use Rattle.qvt_typed_laws.proofs.Solid.{Solid, Typed, solid_read}
 

@@ -11,7 +11,6 @@ use Rattle.qvt_types_states.specs.Judge.{Judges, gives}
 use Rattle.qvt_types_steps.specs.Iterators as iterators
 use Rattle.qvt_types_words.specs.Rulings as ruling
 use Rattle.qvt_typing.specs.Context.{TypingContext}
-use Rattle.qvt_typing.specs.Statements.{has_type}
 use Rattle.qvt_typing.specs.declared.parts.Given.{Given}
 use Rattle.qvt_typed_laws.proofs.Every.{Every, first, others}
 use Rattle.qvt_typed_laws.proofs.Keeps.{SomeTy, Anything, Keeps, weak, next, given, looked, inside, checking, declaring, blank}

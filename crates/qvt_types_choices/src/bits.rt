@@ -22,7 +22,7 @@ pub fn word_count(bound: u32) -> u32
 pub fn no_bits(alloc: Global, bound: u32) -> Result<Seq<u64>, ListFault>
     ensures { IfOk result (λ ws. ws ≡ replicate (word_count bound) 0) }
 {
-    let mut words = Seq::new(alloc);
+    let mut words = Seq::with_room(alloc, word_count(bound) as usize)?;
     for place in 0..word_count(bound) {
         words.push(0)?;
     }

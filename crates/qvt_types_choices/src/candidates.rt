@@ -15,7 +15,7 @@ use std::alloc::Global;
 pub fn lower(metas: &Metas, units: &[Signature], one: u32, other: u32) -> u32
     ensures { result ≡ lows.lower metas.now units.now one other }
 {
-    if is_below(metas, context_at(units, other), context_at(units, one)) {
+    if one != other && is_below(metas, context_at(units, other), context_at(units, one)) {
         other
     } else {
         one

@@ -1,6 +1,6 @@
 //! The choice of a unit for each class by itself, whatever is below it: that of its own units, or else what its superclasses have.
 
-ghost use Rattle.std.specs.Prelude.{◌≡◌, ◌<◌, ℕ, eqb, length, replicate, false, None, is_some, IfOk};
+ghost use Rattle.std.specs.Prelude.{◌≡◌, ◌<◌, ◌&&◌, ◌||◌, ℕ, List, eqb, length, replicate, false, None, is_some, IfOk};
 ghost use Rattle.std.specs.List.{IsDistinct};
 ghost use Rattle.qvt_metas.specs.Metamodels.{class_at, is_element};
 ghost use Rattle.qvt_types_units.specs.Choice as choice;
@@ -174,33 +174,6 @@ fn top_choice(
     choice_among(alloc, metas, units, tops.as_slice())
 }
 
-fn is_told(known: &[Option<FoundUnit>], class: u32) -> bool
-    ensures { result ≡ is_some (by_class.known_at known.now class) }
-{
-    known_at(known, class).is_some()
-}
-
-fn are_told(known: &[Option<FoundUnit>], classes: &[ClassNo]) -> bool
-    ensures { result ≡ by_class.are_known known.now classes.now }
-{
-    classes.iter().all(|class| is_told(known, class.0))
-}
-
-fn is_unclear(known: &[Option<FoundUnit>], class: u32) -> bool
-    ensures { result ≡ by_class.is_unclear_in (by_class.known_at known.now class) }
-{
-    match known_at(known, class) {
-        Some(FoundUnit::Unclear) => true,
-        _ => false,
-    }
-}
-
-fn are_some_unclear(known: &[Option<FoundUnit>], classes: &[ClassNo]) -> bool
-    ensures { result ≡ by_class.some_unclear known.now classes.now }
-{
-    classes.iter().any(|class| is_unclear(known, class.0))
-}
-
 /// Whether a unit is chosen for the class that is a rival of this one.
 fn has_rival(
     metas: &Metas,
@@ -231,22 +204,58 @@ fn have_rivals(
         .any(|class| has_rival(metas, units, known, number, class.0))
 }
 
-/// The lowest of the units that are chosen for the classes, where one is below each.
-fn least_chosen(
+/// What is known of several classes: whether each has a choice, whether one has no single one, and the lowest of the units that are
+/// chosen for them, where one is below each.
+#[derive(Clone, Copy)]
+struct Told {
+    is_each: bool,
+    is_unclear: bool,
+    least: Option<u32>,
+}
+
+/// What is known of them with one class more.
+fn with_one(metas: &Metas, units: &[Signature], told: Told, choice: Option<FoundUnit>) -> Told
+    ensures each { result.is_each ≡ (told.is_each && is_some choice) }
+    ensures unclear { result.is_unclear ≡ (told.is_unclear || by_class.is_unclear_in choice) }
+    ensures least { (ns : List ℕ) → only.least_from metas.now units.now result.least ns ≡ only.least_from metas.now units.now told.least (by_class.with_chosen choice ns) }
+{
+    match choice {
+        None => Told {
+            is_each: false,
+            ..told
+        },
+        Some(FoundUnit::Unclear) => Told {
+            is_unclear: true,
+            ..told
+        },
+        Some(FoundUnit::Chosen(number)) => Told {
+            least: Some(lower_of(metas, units, told.least, number)),
+            ..told
+        },
+        Some(_) => told,
+    }
+}
+
+/// What is known of these classes.
+fn told_of(
     metas: &Metas,
     units: &[Signature],
     known: &[Option<FoundUnit>],
     classes: &[ClassNo],
-) -> Option<u32>
-    ensures { result ≡ only.least metas.now units.now (by_class.chosens known.now classes.now) }
+) -> Told
+    ensures each { result.is_each ≡ by_class.are_known known.now classes.now }
+    ensures unclear { result.is_unclear ≡ by_class.some_unclear known.now classes.now }
+    ensures least { result.least ≡ only.least metas.now units.now (by_class.chosens known.now classes.now) }
 {
-    let mut least = None;
+    let mut told = Told {
+        is_each: true,
+        is_unclear: false,
+        least: None,
+    };
     for class in classes {
-        if let Some(FoundUnit::Chosen(number)) = known_at(known, class.0) {
-            least = Some(lower_of(metas, units, least, number));
-        }
+        told = with_one(metas, units, told, known_at(known, class.0));
     }
-    least
+    told
 }
 
 /// What classes tell of one below them all, where no other is above it. It is not told where one of them has no single choice, and the
@@ -260,11 +269,15 @@ fn joined(
 ) -> Option<FoundUnit>
     ensures { result ≡ by_class.joined metas.now units.now known.now classes.now }
 {
-    if !are_told(known, classes) {
+    let Told {
+        is_each,
+        is_unclear,
+        least,
+    } = told_of(metas, units, known, classes);
+    if !is_each {
         return None;
     }
-    let is_unclear = are_some_unclear(known, classes);
-    match least_chosen(metas, units, known, classes) {
+    match least {
         None => Some(if is_unclear {
             FoundUnit::Unclear
         } else {
@@ -392,7 +405,7 @@ fn choices_by(
     ensures { IfOk result (AreChosen metas.now units.now group.now) }
 {
     let count = metas.class_count();
-    let mut each = Seq::new(alloc);
+    let mut each = Seq::with_room(alloc, count as usize)?;
     let mut stuck = no_bits(alloc, count)?;
     for class in 0..count {
         let choice = choice_by(metas, units, group, top, known, class);

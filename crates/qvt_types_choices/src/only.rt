@@ -101,8 +101,8 @@ fn is_told_single(metas: &Metas, stuck: &Row, class: ClassNo) -> bool
     class.0 < metas.class_count() && !metas.is_abstract(class) && !is_marked(stuck, class.0)
 }
 
-/// The choice for the class, where these are the classes without a single one, which tell of most classes whether the lowest unit
-/// above it is that.
+/// The choice for the class, by the set of the classes without a single one. For a concrete class that is not in it the lowest unit
+/// above is the choice; else the units are asked.
 pub fn choice_by_stuck(
     metas: &Metas,
     units: &[Signature],

@@ -19,8 +19,8 @@ use qvt_types_units::choice::FoundUnit;
 use qvt_types_units::signature::Signature;
 use std::alloc::Global;
 
-/// So many units of a name are few. A call looks at each of them, where it looks at one of many; the choice for each class, which is
-/// told once for many, takes as long as some calls. More can't be counted with seven digits.
+/// So many units of a name are few: one more than their number has seven binary digits. A call looks at each of a few. Of many the
+/// choice for each class is made once, which takes as long as some calls, and a call looks at one.
 const MOST_FEW: usize = 126;
 
 /// What is told once of the units of a name.

@@ -1,6 +1,6 @@
 //! Calls of units: what is called by a name, and what is ruled of it.
 
-ghost use Rattle.std.specs.Prelude.{◌≡◌, [], IfOk};
+ghost use Rattle.std.specs.Prelude.{◌≡◌, None, IfOk};
 ghost use Rattle.qvt_types_context.specs.Seen.{heads_seen};
 ghost use Rattle.qvt_typing.specs.Choice as choice;
 ghost use Rattle.qvt_typing.specs.Numbers as numbers;
@@ -65,18 +65,19 @@ fn is_unsure(alloc: Global, heads: &Heads<'_>, units: &[u32]) -> bool
     false
 }
 
-/// What is called, or nothing that is known where the context of one unit of the name is unknown.
-fn unless_unsure(alloc: Global, heads: &Heads<'_>, units: UnitNoList, called: Called) -> Called
-    ensures { result ≡ calls.unless_unsure (heads_seen heads.now) units called }
+/// What is called where this is found among the units of a name, or nothing that is known where the context of one of them is unknown.
+fn called_if_sure(alloc: Global, heads: &Heads<'_>, units: UnitNoList, found: FoundUnit) -> Called
+    ensures { result ≡ calls.unless_unsure (heads_seen heads.now) units (record { found = found; units = units; source = None }) }
 {
-    if is_unsure(alloc, heads, units.as_slice()) {
-        Called {
-            found: FoundUnit::Untyped,
-            units,
-            source: None,
-        }
+    let found = if is_unsure(alloc, heads, units.as_slice()) {
+        FoundUnit::Untyped
     } else {
-        called
+        found
+    };
+    Called {
+        found,
+        units,
+        source: None,
     }
 }
 
@@ -92,14 +93,8 @@ pub fn called_behind(
     ensures { IfOk result (λ c. c ≡ calls.called_behind (heads_seen heads.now) maps arrow name.now source.now) }
 {
     let found = on_class(alloc, heads, maps, name, static_class(arrow, source))?;
-    let units = heads.units.names().group(maps, name);
-    let units = Seq::from_slice(alloc, units)?;
-    let called = Called {
-        found,
-        units: units.copy(alloc)?,
-        source: None,
-    };
-    Ok(unless_unsure(alloc, heads, units, called))
+    let units = Seq::from_slice(alloc, heads.units.names().group(maps, name))?;
+    Ok(called_if_sure(alloc, heads, units, found))
 }
 
 fn class_part_of(ty: &Option<Ty>) -> ClassPart
@@ -165,16 +160,22 @@ pub fn called_alone(
 ) -> Result<Called, ListFault>
     ensures { IfOk result (λ c. c ≡ calls.called_alone (heads_seen heads.now) maps name.now sources.now) }
 {
-    let called = match heads.units.names().free_unit(maps, name) {
-        None => called_implicitly(alloc, heads, maps, name, sources)?,
-        Some(number) => Called {
+    let units = heads.units.names().group(maps, name);
+    if is_unsure(alloc, heads, units) {
+        return Ok(Called {
+            found: FoundUnit::Untyped,
+            units: Seq::from_slice(alloc, units)?,
+            source: None,
+        });
+    }
+    match heads.units.names().free_unit(maps, name) {
+        None => called_implicitly(alloc, heads, maps, name, sources),
+        Some(number) => Ok(Called {
             found: FoundUnit::Chosen(number),
             units: Seq::from_slice(alloc, &[number])?,
             source: None,
-        },
-    };
-    let units = Seq::from_slice(alloc, heads.units.names().group(maps, name))?;
-    Ok(unless_unsure(alloc, heads, units, called))
+        }),
+    }
 }
 
 /// The numbers of those of the units that are mappings.
@@ -182,7 +183,7 @@ pub fn numbers_of(alloc: Global, heads: &Heads<'_>, units: &[u32]) -> Result<Map
     ensures { IfOk result (λ ns. ns ≡ calls.numbers_of (heads_seen heads.now) units.now) }
 {
     let none = no_unit(alloc);
-    let mut numbers = Seq::new(alloc);
+    let mut numbers = Seq::with_room(alloc, units.len())?;
     for unit in units {
         if let UnitSort::Mapping(number) = unit_at(heads.units, *unit, &none).sort {
             numbers.push(number)?;
@@ -202,7 +203,7 @@ fn reading_of(
     if maps {
         Ok(Reading::Mappings(numbers_of(alloc, heads, units.as_slice())?))
     } else {
-        Ok(Reading::Units(units.copy(alloc)?))
+        Ok(Reading::Units(Seq::from_slice(alloc, units.as_slice())?))
     }
 }
 

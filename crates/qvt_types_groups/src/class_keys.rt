@@ -68,7 +68,7 @@ pub fn named_keys(
 ) -> Result<Seq<Option<ClassKey>>, ListFault>
     ensures { IfOk result (λ ks. ks ≡ map (keys.named_key maps names.now.names) units.now) }
 {
-    let mut all = Seq::new(alloc);
+    let mut all = Seq::with_room(alloc, units.len())?;
     for unit in units {
         all.push(named_key(maps, names, unit))?;
     }
@@ -92,7 +92,7 @@ pub fn constructor_keys(
 ) -> Result<Seq<Option<ClassKey>>, ListFault>
     ensures { IfOk result (λ ks. ks ≡ map keys.constructor_key units.now) }
 {
-    let mut all = Seq::new(alloc);
+    let mut all = Seq::with_room(alloc, units.len())?;
     for unit in units {
         all.push(constructor_key(unit))?;
     }

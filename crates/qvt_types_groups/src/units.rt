@@ -56,7 +56,7 @@ fn unit_tables(
     ensures { IfOk result (choices_of.EachTells metas.now names.now) }
 {
     let units = names.signatures();
-    let mut tables = Seq::new(alloc);
+    let mut tables = Seq::with_room(alloc, names.count() as usize)?;
     for number in 0..names.count() {
         let unit = &units[number as usize];
         tables.push(unit_table(alloc, metas, names, sets, order, number, unit)?)?;

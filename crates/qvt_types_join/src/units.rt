@@ -132,7 +132,7 @@ pub fn unit(alloc: Global, of: &Unit, notes: &mut Notes) -> Result<Box<TypedUnit
 pub fn units(alloc: Global, of: &[Unit], notes: &mut Notes) -> Result<TypedUnitList, ListFault>
     ensures { Joins (map typed_unit_view) (join_all join_unit (map unit_view of.now) notes.old) result notes.new }
 {
-    let mut done = Seq::new(alloc);
+    let mut done = Seq::with_room(alloc, of.len())?;
     for each in of {
         let next = unit(alloc, each, notes)?;
         push(&mut done, next)?;

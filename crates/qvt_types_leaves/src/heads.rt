@@ -34,7 +34,7 @@ pub fn field(alloc: Global, of: &Field, notes: &mut Notes) -> Result<TypedField,
 pub fn fields(alloc: Global, of: &[Field], notes: &mut Notes) -> Result<TypedFieldList, ListFault>
     ensures { Joins (map typed_field_view) (join_all join_member (map field_view of.now) notes.old) result notes.new }
 {
-    let mut done = Seq::new(alloc);
+    let mut done = Seq::with_room(alloc, of.len())?;
     for each in of {
         done.push(field(alloc, each, notes)?)?;
     }
@@ -57,7 +57,7 @@ pub fn param(alloc: Global, of: &Param, notes: &mut Notes) -> Result<TypedParam,
 pub fn params(alloc: Global, of: &[Param], notes: &mut Notes) -> Result<TypedParamList, ListFault>
     ensures { Joins (map typed_param_view) (join_all join_member (map param_view of.now) notes.old) result notes.new }
 {
-    let mut done = Seq::new(alloc);
+    let mut done = Seq::with_room(alloc, of.len())?;
     for each in of {
         done.push(param(alloc, each, notes)?)?;
     }
@@ -125,7 +125,7 @@ pub fn model_types(
 ) -> Result<TypedModelTypeList, ListFault>
     ensures { JoinsAsIs (join_all join_model_type of.now notes.old) result notes.new }
 {
-    let mut done = Seq::new(alloc);
+    let mut done = Seq::with_room(alloc, of.len())?;
     for each in of {
         done.push(model_type(alloc, each, notes)?)?;
     }
@@ -157,7 +157,7 @@ pub fn model_params(
 ) -> Result<TypedModelParamList, ListFault>
     ensures { JoinsAsIs (join_all join_model_param of.now notes.old) result notes.new }
 {
-    let mut done = Seq::new(alloc);
+    let mut done = Seq::with_room(alloc, of.len())?;
     for each in of {
         done.push(model_param(alloc, each, notes)?)?;
     }

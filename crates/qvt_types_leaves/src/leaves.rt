@@ -90,7 +90,7 @@ pub fn optional_path(
 pub fn paths(alloc: Global, of: &[PathTree], notes: &mut Notes) -> Result<TypedPathList, ListFault>
     ensures { JoinsAsIs (join_all join_path of.now notes.old) result notes.new }
 {
-    let mut done = Seq::new(alloc);
+    let mut done = Seq::with_room(alloc, of.len())?;
     for each in of {
         done.push(path(alloc, each, notes)?)?;
     }
@@ -110,7 +110,7 @@ pub fn sign(sign: Sign, notes: &mut Notes) -> TypedSign
 pub fn signs(alloc: Global, of: &[Sign], notes: &mut Notes) -> Result<TypedSignList, ListFault>
     ensures { JoinsAsIs (join_signs of.now notes.old) result notes.new }
 {
-    let mut done = Seq::new(alloc);
+    let mut done = Seq::with_room(alloc, of.len())?;
     for each in of {
         done.push(sign(*each, notes))?;
     }

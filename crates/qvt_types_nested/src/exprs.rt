@@ -9,10 +9,10 @@ ghost use Rattle.qvt_types_leaves.specs.Joins.{Joins, boxed_view, typed_boxed_vi
 ghost use Rattle.qvt_types_exprs.specs.Made.{held, unboxed};
 ghost use Rattle.qvt_types_nodes.specs.View.{typed_expr_view, typed_exprs_of, typed_link_view, typed_links_of, typed_item_view, typed_items_of, typed_range_view, typed_step_view, typed_steps_of, typed_head_view, typed_accumulator_view, typed_filter_view, typed_map_view, typed_resolve_view, typed_optional_filter, typed_optional_head, typed_optional_accumulator, typed_optional_range};
 
-use crate::room::with_room;
 use crate::stmts::stmts;
 use qvt_base::list_fault::ListFault;
 use qvt_base::numbers::Place;
+use qvt_base::seq::Seq;
 use qvt_base::text::Text;
 use qvt_tree_types::tree::{
     Accumulator, Expr, Filter, Head, Item, Link, MapCall, RangeEnd, ResolveCall, Step, Stmt,
@@ -115,7 +115,7 @@ pub fn expr(alloc: Global, of: &Expr, notes: &mut Notes) -> Result<Box<TypedExpr
 pub fn exprs(alloc: Global, of: &[Expr], notes: &mut Notes) -> Result<TypedExprList, ListFault>
     ensures { Joins (λ xs. typed_exprs_of (map typed_expr_view xs)) (join_exprs (exprs_of (map expr_view of.now)) notes.old) result notes.new }
 {
-    let mut done = with_room(alloc, of.len())?;
+    let mut done = Seq::with_room(alloc, of.len())?;
     for each in of {
         let next = expr(alloc, each, notes)?;
         push(&mut done, next)?;
@@ -212,7 +212,7 @@ pub fn link(alloc: Global, of: &Link, notes: &mut Notes) -> Result<Box<TypedLink
 pub fn links(alloc: Global, of: &[Link], notes: &mut Notes) -> Result<TypedLinkList, ListFault>
     ensures { Joins (λ xs. typed_links_of (map typed_link_view xs)) (join_links (links_of (map link_view of.now)) notes.old) result notes.new }
 {
-    let mut done = with_room(alloc, of.len())?;
+    let mut done = Seq::with_room(alloc, of.len())?;
     for each in of {
         let next = link(alloc, each, notes)?;
         push(&mut done, next)?;
@@ -259,7 +259,7 @@ pub fn one_item(alloc: Global, of: &Item, notes: &mut Notes) -> Result<Box<Typed
 pub fn all_items(alloc: Global, of: &[Item], notes: &mut Notes) -> Result<TypedItemList, ListFault>
     ensures { Joins (λ xs. typed_items_of (map typed_item_view xs)) (join_items (items_of (map item_view of.now)) notes.old) result notes.new }
 {
-    let mut done = with_room(alloc, of.len())?;
+    let mut done = Seq::with_room(alloc, of.len())?;
     for each in of {
         let next = one_item(alloc, each, notes)?;
         push(&mut done, next)?;
@@ -424,7 +424,7 @@ pub fn step(alloc: Global, of: &Step, notes: &mut Notes) -> Result<Box<TypedStep
 pub fn steps(alloc: Global, of: &[Step], notes: &mut Notes) -> Result<TypedStepList, ListFault>
     ensures { Joins (λ xs. typed_steps_of (map typed_step_view xs)) (join_steps (steps_of (map step_view of.now)) notes.old) result notes.new }
 {
-    let mut done = with_room(alloc, of.len())?;
+    let mut done = Seq::with_room(alloc, of.len())?;
     for each in of {
         let next = step(alloc, each, notes)?;
         push(&mut done, next)?;

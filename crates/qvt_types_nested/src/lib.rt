@@ -2,5 +2,4 @@
 #![tactic(auto)]
 
 pub mod exprs;
-mod room;
 pub mod stmts;

@@ -10,9 +10,9 @@ ghost use Rattle.qvt_types_exprs.specs.Made.{held, unboxed};
 ghost use Rattle.qvt_types_nodes.specs.View.{typed_expr_view, typed_stmt_view, typed_target_view, typed_arm_view, typed_arms_of, typed_optional_expr, typed_block_view};
 
 use crate::exprs::expr;
-use crate::room::with_room;
 use qvt_base::list_fault::ListFault;
 use qvt_base::numbers::Place;
+use qvt_base::seq::Seq;
 use qvt_base::text::Text;
 use qvt_tree_types::tree::{Arm, Expr, Stmt, Target};
 use qvt_tree_types::types::TypeTree;
@@ -28,7 +28,7 @@ use std::alloc::Global;
 pub fn stmts(alloc: Global, of: &[Stmt], notes: &mut Notes) -> Result<TypedStmts, ListFault>
     ensures { Joins typed_block_view (join_stmts (block_view of.now) notes.old) result notes.new }
 {
-    let mut done = with_room(alloc, of.len())?;
+    let mut done = Seq::with_room(alloc, of.len())?;
     for each in of {
         let next = stmt(alloc, each, notes)?;
         push(&mut done, next)?;
@@ -170,7 +170,7 @@ pub fn arm(alloc: Global, of: &Arm, notes: &mut Notes) -> Result<Box<TypedArm>, 
 pub fn all_arms(alloc: Global, of: &[Arm], notes: &mut Notes) -> Result<TypedArmList, ListFault>
     ensures { Joins (λ xs. typed_arms_of (map typed_arm_view xs)) (join_arms (arms_of (map arm_view of.now)) notes.old) result notes.new }
 {
-    let mut done = with_room(alloc, of.len())?;
+    let mut done = Seq::with_room(alloc, of.len())?;
     for each in of {
         let next = arm(alloc, each, notes)?;
         push(&mut done, next)?;

@@ -85,7 +85,7 @@ fn param_types(
 ) -> Result<ParamTypes, ListFault>
     ensures { IfOk result (λ ts. ts ≡ signatures.param_types metas.now names.now (map param_view params.now)) }
 {
-    let mut types = Seq::new(alloc);
+    let mut types = Seq::with_room(alloc, params.len())?;
     for param in params {
         types.push(found(written_type(alloc, metas, names, &param.kind)?))?;
     }

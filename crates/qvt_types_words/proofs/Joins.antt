@@ -1,5 +1,5 @@
 -- A join of types is the join of their plain data.
-use Rattle.std.proofs.Common.{◌≡◌, refl, Bool, true, false, Option, Some, None, cond}
+use Rattle.std.proofs.Common.{◌≡◌, refl, Bool, true, false, Some, None, cond}
 use Rattle.std.specs.Option.{option_map}
 use Rattle.qvt_metas.specs.Metamodels.{Metamodels}
 use Rattle.qvt_metas.specs.Descends.{descends}

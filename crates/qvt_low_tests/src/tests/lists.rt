@@ -38,6 +38,15 @@ fn lists_and_texts_hold_what_is_put_in(rt: HostRuntime) -> Result<(), ListFault>
 }
 
 #[test]
+fn a_list_with_room_holds_what_is_put_in_and_more(rt: HostRuntime) -> Result<(), ListFault> {
+    let mut bytes: Bytes = Seq::with_room(rt.alloc(), 2)?;
+    assert!(rt; bytes.is_empty());
+    bytes.extend(b"abc")?;
+    assert!(rt; bytes.as_slice() == b"abc".as_slice());
+    Ok(())
+}
+
+#[test]
 fn a_list_of_texts_is_copied(rt: HostRuntime) -> Result<(), ListFault> {
     let names = list_of_a_text(rt.alloc())?;
     assert!(rt; names.len() == 1);

@@ -5,10 +5,10 @@ use Rattle.qvt_meta_tables.proofs.order.placed.Goals as goal
 
 pub loop-class-init : goal.loop-class-init
 loop-class-init c = record {
-  search = subst (λ m. IsSearch c.args.classes.now m c.new.result c.new-2.result) (sym c.in_ok-flags.ensures)
-      (subst (λ p. IsSearch c.args.classes.now (replicate (length c.args.classes.now) false) p c.new-2.result) (sym c.new.ensures)
-      (subst (λ v. IsSearch c.args.classes.now (replicate (length c.args.classes.now) false) [] v) (sym c.new-2.ensures) (first c.args.classes.now)));
-  done = c.new-2.ensures;
+  search = subst (λ m. IsSearch c.args.classes.now m c.in_ok-with_room.field-0 c.new.result) (sym c.in_ok-flags.ensures)
+      (subst (λ p. IsSearch c.args.classes.now (replicate (length c.args.classes.now) false) p c.new.result) (sym c.in_ok-with_room.ensures)
+      (subst (λ v. IsSearch c.args.classes.now (replicate (length c.args.classes.now) false) [] v) (sym c.new.ensures) (first c.args.classes.now)));
+  done = c.new.ensures;
   met = λ x l. absurd (omega arith);
 }
 

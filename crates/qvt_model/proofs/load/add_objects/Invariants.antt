@@ -1,4 +1,4 @@
-use Rattle.std.proofs.Common.{drop, ◌+◌}
+use Rattle.std.proofs.Common.{drop}
 use Rattle.qvt_model.specs.Steps.{IsAdding}
 use Rattle.qvt_model.proofs.load.add_objects.Given as goal
 

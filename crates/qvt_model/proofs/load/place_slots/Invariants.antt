@@ -1,4 +1,4 @@
-use Rattle.std.proofs.Common.{drop, ◌+◌}
+use Rattle.std.proofs.Common.{drop}
 use Rattle.qvt_model.specs.Steps.{ArePutting}
 use Rattle.qvt_model.proofs.load.place_slots.Given as goal
 

@@ -1,5 +1,5 @@
 -- A list stands one step above its items, and they one above the next list.
-use Rattle.std.proofs.Common.{ℕ, ◌+◌, ◌*◌}
+use Rattle.std.proofs.Common.{◌+◌, ◌*◌}
 use Rattle.qvt_ocl_tests.proofs.values.+values.Given as goal
 
 abbrev pub decreases-value_of : goal.decreases-value_of

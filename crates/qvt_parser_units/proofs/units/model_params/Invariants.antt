@@ -1,18 +1,11 @@
-use Rattle.std.proofs.Common.{◌≡◌, ◌≤◌, ◌<◌, length, map}
-use Rattle.qvt_grammar.specs.Reader.{many_at, made_at, then_at, choose_at, with_front}
-use Rattle.qvt_tree_types.specs.Module.{param_view, field_view}
-use Rattle.qvt_language.specs.Tokens.{is, of}
+use Rattle.std.proofs.Common.{◌≡◌, ◌<◌, length}
+use Rattle.qvt_grammar.specs.Reader.{many_at, made_at, then_at, with_front}
+use Rattle.qvt_language.specs.Tokens.{is}
 use Rattle.qvt_language.specs.Readers.{the_at}
-use Rattle.qvt_language.specs.Trees.{second, cons_of, nothing}
-use Rattle.qvt_language.specs.UnitTrees.{some_unit}
+use Rattle.qvt_language.specs.Trees.{second, cons_of}
 use Rattle.qvt_parser_grammar.specs.Gives.{toks}
-use Rattle.qvt_language.specs.Firsts.{unit_first}
-use Rattle.qvt_language.specs.declared.class.Class.TheVariants.{Comma, Name, ModelTypeWord, Semicolon}
-use Rattle.qvt_language.specs.ReadingUnits.{param_at, feature_at, model_type_at, model_param_at, unit_at}
-use Rattle.qvt_language.specs.Nesting.{nested_at}
-use Rattle.qvt_parser_units.specs.UnitViews.{units_view}
-use Rattle.qvt_parser_units.proofs.LessUnits.{less_unit}
-use Rattle.qvt_parser_units.proofs.UnitLoops.{all_at}
+use Rattle.qvt_language.specs.declared.class.Class.TheVariants.{Comma}
+use Rattle.qvt_language.specs.ReadingUnits.{model_param_at}
 use Rattle.qvt_parser_units.proofs.units.model_params.Given as goal
 
 abbrev pub invariant-loop-parser : goal.invariant-loop-parser

@@ -1,19 +1,17 @@
-use Rattle.std.proofs.Common.{sym, ap, ◌∙◌, arith}
-use Rattle.qvt_grammar.specs.Reader.{many_at, made_at, then_at, choose_at, with_front}
-use Rattle.qvt_grammar.proofs.Loops.{loop_push, loop_more}
-use Rattle.qvt_tree_types.specs.Module.{param_view, field_view}
+use Rattle.std.proofs.Common.{sym, ◌∙◌, arith}
+use Rattle.qvt_grammar.specs.Reader.{made_at, choose_at}
 use Rattle.qvt_language.specs.Tokens.{is, of}
 use Rattle.qvt_language.specs.Readers.{the_at}
-use Rattle.qvt_language.specs.Trees.{second, nothing}
+use Rattle.qvt_language.specs.Trees.{nothing}
 use Rattle.qvt_language.specs.UnitTrees.{some_unit}
 use Rattle.qvt_parser_grammar.specs.Gives.{toks}
 use Rattle.qvt_language.specs.Firsts.{unit_first}
-use Rattle.qvt_language.specs.declared.class.Class.TheVariants.{Comma, Name, ModelTypeWord, Semicolon}
-use Rattle.qvt_language.specs.ReadingUnits.{param_at, feature_at, model_type_at, model_param_at, unit_at}
+use Rattle.qvt_language.specs.declared.class.Class.TheVariants.{Semicolon}
+use Rattle.qvt_language.specs.ReadingUnits.{unit_at}
 use Rattle.qvt_language.specs.Nesting.{nested_at}
 use Rattle.qvt_parser_units.specs.Adding.{turn_view}
 use Rattle.qvt_parser_units.specs.UnitViews.{units_view}
-use Rattle.qvt_parser_units.proofs.LessUnits.{less_param, less_feature, less_model_type, less_model_param, less_unit}
+use Rattle.qvt_parser_units.proofs.LessUnits.{less_unit}
 use Rattle.qvt_parser_units.proofs.UnitLoops.{loop_turn}
 use Rattle.qvt_parser_units.proofs.units.units.Goals as goal
 

@@ -1,4 +1,4 @@
-use Rattle.std.proofs.Common.{◌≡◌, ◌∙◌, ◌≤◌, sym, length, drop, arith}
+use Rattle.std.proofs.Common.{◌∙◌, ◌≤◌, sym, length, drop, arith}
 use Rattle.std.proofs.lemmas.List.{at_drop_all}
 use Rattle.qvt_types_steps.specs.UnitCalls.{arguments_conform}
 use Rattle.qvt_types_steps.proofs.NoArguments.{none_left}

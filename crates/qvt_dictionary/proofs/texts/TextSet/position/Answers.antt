@@ -1,4 +1,4 @@
-use Rattle.std.proofs.Common.{◌≡◌, ◌∙◌, ap, position}
+use Rattle.std.proofs.Common.{◌∙◌, ap, position}
 use Rattle.std.specs.Str.{bytes_eq}
 use Rattle.qvt_dictionary.proofs.TextSets.{position-texts}
 use Rattle.qvt_dictionary.proofs.texts.TextSet.position.Goals as goal

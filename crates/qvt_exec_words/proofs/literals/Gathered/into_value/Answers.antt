@@ -1,5 +1,5 @@
 use Rattle.std.proofs.Common.{◌≡◌, ◌∙◌, ap, subst, sym}
-use Rattle.std.specs.Prelude.{IfOk, Some, None}
+use Rattle.std.specs.Prelude.{IfOk}
 use Rattle.std.specs.List.{find}
 use Rattle.qvt_value.specs.declared.value.Value.{Value, Invalid}
 use Rattle.qvt_value.specs.declared.value.Reason.TheVariants.{TooLarge}

@@ -1,6 +1,5 @@
 use Rattle.std.proofs.Common.{◌≡◌, ◌∙◌, ◌+◌, ap, take_all, rules}
 use Rattle.qvt_ocl_words.specs.Lists.{count}
-use Rattle.qvt_ocl_lists.specs.Counts.{left}
 use Rattle.qvt_ocl_lists.proofs.CountTables.{counted}
 use Rattle.qvt_ocl_lists.proofs.counts.Counts.in_list.Goals as goal
 

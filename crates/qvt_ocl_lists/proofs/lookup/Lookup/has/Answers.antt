@@ -1,4 +1,4 @@
-use Rattle.std.proofs.Common.{◌≡◌, ◌∙◌, ap}
+use Rattle.std.proofs.Common.{◌∙◌, ap}
 use Rattle.qvt_ocl_words.specs.Lists.{has}
 use Rattle.qvt_ocl_lists.proofs.ItemLists.{held}
 use Rattle.qvt_ocl_lists.proofs.lookup.Lookup.has.Goals as goal

@@ -1,7 +1,5 @@
 use Rattle.std.proofs.Common.{◌∙◌, sym}
-use Rattle.qvt_slots.specs.Contents.{slot_of}
 use Rattle.qvt_store_laws.proofs.Own.{crosses-more}
-use Rattle.qvt_store.proofs.Appending.{crosses-append}
 use Rattle.qvt_store.proofs.store.Store.crosses_more.Goals as goal
 
 pub returns-then-holds_own : goal.returns-then-holds_own

@@ -1,4 +1,4 @@
-use Rattle.std.proofs.Common.{◌≡◌, ◌∙◌, ◌++◌, cond, sym, ap, subst, List}
+use Rattle.std.proofs.Common.{◌∙◌, ◌++◌, cond, sym, ap, subst, List}
 use Rattle.std.specs.Prelude.{All, filter}
 use Rattle.std.proofs.lemmas.List.Elements.{All-filter}
 use Rattle.qvt_value.specs.declared.value.Value.{Value}
