@@ -5,7 +5,7 @@ use Rattle.std.specs.List.{list_any, AllByRecursion}
 use Rattle.std.proofs.lemmas.Bool.{cases_eq}
 use Rattle.std.proofs.lemmas.Bool.Decides.{Decides-eqb}
 use Rattle.qvt_relation.proofs.Bools.{or_left, or_right, or_cases, clash}
-use Rattle.qvt_metas.specs.Metamodels.{Metamodels, is_containment}
+use Rattle.qvt_metamodel.specs.Metamodels.{Metamodels, is_containment}
 use Rattle.qvt_store.specs.Slots.{is_object, has}
 use Rattle.qvt_value.specs.Kept.{is_same}
 use Rattle.qvt_value.specs.Order.{order_of}

@@ -11,7 +11,7 @@ use Rattle.qvt_value.specs.declared.value.Value.{Value}
 use Rattle.qvt_value.specs.declared.value.Value.TheVariants.{Bool as BoolValue, Int as IntValue, Str as StrValue, Enum as EnumValue, Obj}
 use Rattle.qvt_value.specs.Kept.{is_same}
 use Rattle.qvt_value.specs.Order.{order_of}
-use Rattle.qvt_metas.specs.Metamodels.{Metamodels, class_at, feature_at, features_of, among_features, has_feature, shape_of, opposite, is_opposite, is_feature_number, is_containment}
+use Rattle.qvt_metamodel.specs.Metamodels.{Metamodels, class_at, feature_at, features_of, among_features, has_feature, shape_of, opposite, is_opposite, is_feature_number, is_containment}
 use Rattle.qvt_relation.specs.Closure.{Closure}
 use Rattle.qvt_relation.specs.Closure.Closure.{directly as one_step, through as more_steps}
 use Rattle.qvt_relation.proofs.Bools.{and_right, and_both, or_cases, none_left, none_right, either, clash, refuted}

@@ -1,6 +1,6 @@
 -- A model without a fault can be loaded.
 use Rattle.std.specs.Prelude.{◌≡◌, ℕ, List, None}
-use Rattle.qvt_metas.specs.Metamodels.{Metamodels}
+use Rattle.qvt_metamodel.specs.Metamodels.{Metamodels}
 use Rattle.qvt_model.specs.declared.data.ObjectData.{ObjectData}
 use Rattle.qvt_model.specs.WellFormed.{IsModel}
 use Rattle.qvt_conform.specs.Conformance.{conform_fault}

@@ -4,7 +4,7 @@ use Rattle.qvt_run_data.specs.declared.late.LateWrite.{LateWrite}
 use Rattle.qvt_run_rules.specs.Calls.{CallRule}
 use Rattle.qvt_meaning.specs.Readings.{Setting}
 use Rattle.qvt_meaning.specs.Units as of_units
-use Rattle.qvt_exec_calls.specs.Units.{UnitMeanings}
+use Rattle.qvt_exec_phrases.specs.Units.{UnitMeanings}
 use Rattle.qvt_exec_called.specs.Stage.{setting_by}
 use Rattle.qvt_exec_answers.specs.Answering.{program_of, resolves_of}
 use Rattle.qvt_exec_answers.specs.declared.answering.Answering.{Answering}

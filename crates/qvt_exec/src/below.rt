@@ -7,7 +7,7 @@ ghost use Rattle.qvt_exec.specs.Knot.{GivesBlock, GivesCall, GivesExpr};
 use qvt_base::numbers::Place;
 use qvt_exec_answers::answering::Answering;
 use qvt_exec_answers::answers::answered;
-use qvt_exec_calls::units::UnitCalls;
+use qvt_exec_phrases::units::UnitCalls;
 use qvt_exec_phrases::engine::Engine;
 use qvt_exec_phrases::nested::Nested;
 use qvt_exec_state::state::RunState;

@@ -4,7 +4,7 @@ ghost use Rattle.std.specs.Prelude.{IfSome, ◌<◌};
 
 use qvt_exec_answers::exprs::left_behind;
 use qvt_exec_called::statements::bytes_of_block;
-use qvt_exec_calls::numbers::unit_of;
+use qvt_exec_phrases::numbers::unit_of;
 use qvt_run_data::callee::Callee;
 use qvt_types_nodes::module::TypedUnit;
 use qvt_types_program::program::Program;

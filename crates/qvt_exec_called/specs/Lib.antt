@@ -1,1 +1,2 @@
-pub use Rattle.qvt_exec_mappings.specs.Stage
+pub use Rattle.qvt_exec_candidates.specs.Stage
+pub mod Routines

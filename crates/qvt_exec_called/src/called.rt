@@ -2,17 +2,17 @@
 
 ghost use Rattle.qvt_run_data.specs.declared.callee.Callee.TheVariants.{HelperCall, ConstructorCall, MappingCall};
 ghost use Rattle.qvt_exec_state.specs.Runs.{Runs, seen};
-ghost use Rattle.qvt_exec_routines.specs.Routines.{called_of};
+ghost use Rattle.qvt_exec_called.specs.Routines.{called_of};
 
+use crate::calls::mapping;
+use crate::routine_at::routine_at;
+use crate::routines::{constructor, helper};
 use qvt_base::numbers::{Oid, Place};
-use qvt_exec_calls::numbers::no_unit;
-use qvt_exec_calls::units::ReadyUnits;
-use qvt_exec_mappings::calls::mapping;
-use qvt_exec_mappings::mapping::mapping_at;
-use qvt_exec_mappings::run::Run;
+use qvt_exec_candidates::mapping::mapping_at;
+use qvt_exec_candidates::run::Run;
 use qvt_exec_phrases::nested::Nested;
-use qvt_exec_routines::routine_at::routine_at;
-use qvt_exec_routines::routines::{constructor, helper};
+use qvt_exec_phrases::numbers::no_unit;
+use qvt_exec_phrases::units::ReadyUnits;
 use qvt_exec_state::state::RunState;
 use qvt_exec_state::steps::misfit;
 use qvt_run_data::callee::{Callee, Way};

@@ -12,7 +12,7 @@ use Rattle.qvt_run_rules.specs.Cost.{spend_of}
 use Rattle.qvt_run_rules.specs.Mappings.{MappingRule}
 use Rattle.qvt_meaning.specs.Readings.{Setting}
 use Rattle.qvt_meaning.specs.Units as of_units
-use Rattle.qvt_exec_calls.specs.Units.{UnitMeanings}
+use Rattle.qvt_exec_phrases.specs.Units.{UnitMeanings}
 use Rattle.qvt_exec_phrases.specs.Means.{barred_in, enters_in}
 use Rattle.qvt_exec_candidates.specs.declared.mapping.MappingUnit.{MappingUnit}
 use Rattle.qvt_exec_candidates.specs.declared.run.Run.{Run}

@@ -16,7 +16,7 @@ use qvt_base::list_fault::ListFault;
 use qvt_base::numbers::{ClassNo, Oid, Place};
 use qvt_base::seq::Seq;
 use qvt_base::text::Text;
-use qvt_exec_calls::units::{ReadyUnits, UnitCalls};
+use qvt_exec_phrases::units::{ReadyUnits, UnitCalls};
 use qvt_exec_moves::objects::new_object;
 use qvt_exec_moves::variables::set_variable;
 use qvt_exec_state::locals::local_named;

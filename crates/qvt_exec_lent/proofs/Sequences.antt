@@ -1,7 +1,7 @@
 -- A slot that is a Sequence is its list.
 use Rattle.std.proofs.Common.{◌≡◌, ◌∙◌, ◌≤◌, ℕ, Bool, true, false, not, ◌&&◌, nat_lt, if◌then◌else◌, refl, sym, ap, List, length, Some, None, arith}
 use Rattle.qvt_base.specs.declared.numbers.Place.{Place}
-use Rattle.qvt_metas.specs.Metamodels.{shape_of, is_single}
+use Rattle.qvt_metamodel.specs.Metamodels.{shape_of, is_single}
 use Rattle.qvt_relation.proofs.Bools.{and_left, and_right}
 use Rattle.qvt_store.specs.Contents.{Contents, slot_of}
 use Rattle.qvt_value.specs.Limits.{most, is_beyond, limited}

@@ -1,6 +1,6 @@
 -- Slots that are Sequences of their lists (OCL 2.4, 7.5.3; EMOF 12.4).
 use Rattle.std.specs.Prelude.{◌≡◌, ◌≤◌, ℕ, Bool, not, ◌&&◌, List, length, IsTrue}
-use Rattle.qvt_metas.specs.Metamodels.{Metamodels, shape_of, is_single}
+use Rattle.qvt_metamodel.specs.Metamodels.{Metamodels, shape_of, is_single}
 use Rattle.qvt_store.specs.Contents.{Contents, is_slot, slot_of}
 use Rattle.qvt_value.specs.Limits.{most}
 use Rattle.qvt_value.specs.declared.value.Value.{Value}

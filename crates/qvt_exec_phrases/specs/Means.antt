@@ -22,16 +22,16 @@ use Rattle.qvt_types_nodes.specs.declared.tree.TypedStep.{TypedStep}
 use Rattle.qvt_types_nodes.specs.declared.tree.TypedStmt.{TypedStmt}
 use Rattle.qvt_types_nodes.specs.declared.tree.TypedTarget.{TypedTarget}
 use Rattle.qvt_types_nodes.specs.View.{typed_arm_view, typed_arms_of, typed_expr_view, typed_exprs_of, typed_item_view, typed_items_of, typed_link_view, typed_links_of, typed_map_view, typed_optional_else, typed_optional_expr, typed_step_view, typed_steps_of, typed_stmt_view, typed_stmts_of, typed_target_view, typed_head_view, typed_optional_head}
-use Rattle.qvt_exec_calls.specs.Accepts.{ProgramTerm}
-use Rattle.qvt_exec_calls.specs.Runs.{seen}
-use Rattle.qvt_exec_calls.specs.declared.state.RunState.{RunState}
-use Rattle.qvt_exec_calls.specs.Nodes.{late_of, optional_place, place_of, type_of}
-use Rattle.qvt_exec_calls.specs.Phrases.{arm, arms, each_type, expr, exprs, guarded, head, item, items, late_source, link, links, map_alone, map_step, optional, otherwise, return_, step, steps, stmt, stmts, target, variable_type}
+use Rattle.qvt_program_units.specs.Accepts.{ProgramTerm}
+use Rattle.qvt_exec_state.specs.Runs.{seen}
+use Rattle.qvt_exec_state.specs.declared.state.RunState.{RunState}
+use Rattle.qvt_program_units.specs.Nodes.{late_of, optional_place, place_of, type_of}
+use Rattle.qvt_program_units.specs.Phrases.{arm, arms, each_type, expr, exprs, guarded, head, item, items, late_source, link, links, map_alone, map_step, optional, otherwise, return_, step, steps, stmt, stmts, target, variable_type}
 use Rattle.qvt_run_rules.specs.Cost.{spend_of}
-use Rattle.qvt_exec_calls.specs.Plain.{no_entry, nothing_beyond}
-use Rattle.qvt_exec_calls.specs.Readings as by
-use Rattle.qvt_exec_calls.specs.Readings.{Setting, HeadDoes, TargetDoes}
-use Rattle.qvt_exec_calls.specs.Units.{UnitMeanings}
+use Rattle.qvt_program_units.specs.Plain.{no_entry, nothing_beyond}
+use Rattle.qvt_program_units.specs.Readings as by
+use Rattle.qvt_program_units.specs.Readings.{Setting, HeadDoes, TargetDoes}
+use Rattle.qvt_exec_phrases.specs.Units.{UnitMeanings}
 use Rattle.qvt_exec_phrases.specs.declared.engine.Engine.{Engine}
 
 -- what the interpreter reads, and the units that stand behind calls

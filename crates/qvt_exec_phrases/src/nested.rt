@@ -1,14 +1,14 @@
 //! What stands inside a phrase, and what stands behind its calls.
 
 ghost use Rattle.std.specs.Prelude.{◌≡◌};
-ghost use Rattle.qvt_exec_calls.specs.Program.{program_view};
-ghost use Rattle.qvt_exec_calls.specs.Runs.{Runs, seen};
+ghost use Rattle.qvt_program_units.specs.Program.{program_view};
+ghost use Rattle.qvt_exec_state.specs.Runs.{Runs, seen};
 ghost use Rattle.qvt_exec_phrases.specs.Means.{block_of, expr_of};
 
 use crate::engine::Engine;
-use qvt_exec_calls::program::Program;
-use qvt_exec_calls::state::RunState;
-use qvt_exec_calls::units::{ReadyUnits, UnitCalls};
+use crate::units::{ReadyUnits, UnitCalls};
+use qvt_exec_state::state::RunState;
+use qvt_program_units::program::Program;
 use qvt_run_data::exit::Halt;
 use qvt_types_nodes::tree::{TypedExpr, TypedStmts};
 use qvt_value::value::Value;

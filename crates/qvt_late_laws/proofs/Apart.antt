@@ -2,7 +2,7 @@
 use Rattle.std.proofs.Common.{◌≡◌, ℕ, ◌+◌, Bool, true, false, ◌==◌, not, cond, if◌then◌else◌, refl, sym, ap, ◌∙◌, subst, List, [], ◌∷◌, ◌++◌, map, filter, filter_map, fold, append_assoc}
 use Rattle.std.proofs.lemmas.Bool.Decides.{Decides-eqb}
 use Rattle.qvt_base.specs.declared.numbers.Oid.{Oid}
-use Rattle.qvt_metas.specs.Metamodels.{Metamodels, shape_of}
+use Rattle.qvt_metamodel.specs.Metamodels.{Metamodels, shape_of}
 use Rattle.qvt_relation.proofs.Bools.{clash, none_left, none_right, or_none, refuted}
 use Rattle.qvt_slots.specs.Contents.{Contents}
 use Rattle.qvt_slots.specs.Repeats.{new_list}

@@ -3,8 +3,8 @@ use Rattle.std.proofs.Common.{◌≡◌, ℕ, true, false, cond, sym, ap, ◌∙
 use Rattle.std.specs.Prelude.{None}
 use Rattle.std.proofs.lemmas.Bool.{ltb-true}
 use Rattle.qvt_value.specs.declared.value.Value.{Value}
-use Rattle.qvt_metas.specs.Metamodels.{features_of, has_feature, is_containment, is_feature_number, is_opposite, opposite}
-use Rattle.qvt_metas.specs.WellFormed.{IsWellFormed}
+use Rattle.qvt_metamodel.specs.Metamodels.{features_of, has_feature, is_containment, is_feature_number, is_opposite, opposite}
+use Rattle.qvt_metamodel.specs.WellFormed.{IsWellFormed}
 use Rattle.qvt_relation.proofs.Bools.{and_both, and_left, and_right, clash}
 use Rattle.qvt_slots.specs.Change.{Change, is_here, slot_after, slot_elsewhere}
 use Rattle.qvt_slots.specs.Contents.{Contents, Instance, class_of, is_live, is_slot, list_of, no_instance, slot_of}

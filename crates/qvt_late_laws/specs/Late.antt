@@ -2,7 +2,7 @@
 -- containment: no entry for another slot changes it.
 use Rattle.std.specs.Prelude.{◌≡◌, ℕ, Bool, List, [], ◌∷◌, ◌++◌, filter, map, Ok, IsTrue}
 use Rattle.std.specs.List.{fold}
-use Rattle.qvt_metas.specs.WellFormed.{IsWellFormed}
+use Rattle.qvt_metamodel.specs.WellFormed.{IsWellFormed}
 use Rattle.qvt_slots.specs.declared.op.SetOp.TheVariants.{Put}
 use Rattle.qvt_slots.specs.Contents.{Contents, is_slot, slot_of}
 use Rattle.qvt_typing.specs.Accepts.{ProgramTerm}

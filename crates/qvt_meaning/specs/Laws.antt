@@ -4,8 +4,8 @@ use Rattle.std.specs.Prelude.{◌≡◌, ℕ, suc, ◌==◌, ◌&&◌, ◌++◌,
 use Rattle.std.specs.List.{fold}
 use Rattle.qvt_repeats.specs.Repeats.{repeats_by}
 use Rattle.qvt_base.specs.declared.numbers.Place.{Place}
-use Rattle.qvt_metas.specs.Metamodels.{opposite, is_containment}
-use Rattle.qvt_metas.specs.WellFormed.{IsWellFormed}
+use Rattle.qvt_metamodel.specs.Metamodels.{opposite, is_containment}
+use Rattle.qvt_metamodel.specs.WellFormed.{IsWellFormed}
 use Rattle.qvt_slots.specs.Contents.{Contents, is_slot, slot_of}
 use Rattle.qvt_slots.specs.Repeats.{new_list}
 use Rattle.qvt_slots.specs.declared.op.SetOp.{SetOp}

@@ -2,8 +2,8 @@
 use Rattle.std.proofs.Common.{ℕ, Bool, List, if◌then◌else◌, Option, Some, None}
 use Rattle.qvt_base.specs.declared.numbers.Oid.{Oid}
 use Rattle.qvt_base.specs.declared.numbers.Place.{Place}
-use Rattle.qvt_metas.specs.Metamodels.{shape_of}
-use Rattle.qvt_metas.specs.Descends.{is_class_kind}
+use Rattle.qvt_metamodel.specs.Metamodels.{shape_of}
+use Rattle.qvt_metamodel.specs.Descends.{is_class_kind}
 use Rattle.qvt_slots.specs.Contents.{Contents, is_slot}
 use Rattle.qvt_value.specs.declared.value.Value.{Value, Invalid}
 use Rattle.qvt_run_data.specs.declared.exit.Exit.{Exit}

@@ -4,7 +4,7 @@ use Rattle.std.specs.List.{flat_map}
 use Rattle.qvt_base.specs.declared.numbers.Place.{Place}
 use Rattle.qvt_conform.specs.declared.fault.LowFault.{LowFault}
 use Rattle.qvt_lines.specs.Lines.{out_of_fuel_line, low_line}
-use Rattle.qvt_metas.specs.Metamodels.{feature_at}
+use Rattle.qvt_metamodel.specs.Metamodels.{feature_at}
 use Rattle.qvt_model.specs.RunIds.{run_id}
 use Rattle.qvt_store.specs.Contents.{Contents, extent_at, extent_of, members_of}
 use Rattle.qvt_value.specs.declared.value.Reason.{Reason}

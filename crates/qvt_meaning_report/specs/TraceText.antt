@@ -7,8 +7,8 @@ use Rattle.serde_json.specs.View.{items_of}
 use Rattle.qvt_base.specs.declared.numbers.MappingNo.{MappingNo}
 use Rattle.qvt_base.specs.declared.numbers.Oid.{Oid}
 use Rattle.qvt_json.specs.Plain.{file_text}
-use Rattle.qvt_metas.specs.Metamodels.{Metamodels, class_at, feature_at}
-use Rattle.qvt_metas.specs.Named.{metamodel_at, enumeration_at, literal_at}
+use Rattle.qvt_metamodel.specs.Metamodels.{Metamodels, class_at, feature_at}
+use Rattle.qvt_metamodel.specs.Named.{metamodel_at, enumeration_at, literal_at}
 use Rattle.qvt_model.specs.RunIds.{run_id}
 use Rattle.qvt_store.specs.Contents.{Contents, extent_at, extent_of, is_named}
 use Rattle.qvt_slots.specs.declared.op.SetOp.{SetOp}

@@ -17,7 +17,7 @@ use Rattle.qvt_run_rules.specs.Logic.{logic, by_left}
 use Rattle.qvt_run_rules.specs.Store.{new_object, put}
 use Rattle.qvt_run_rules.specs.Expressions.{literal, variable, on_first, conditional, operated, logical, called}
 use Rattle.qvt_run_rules.specs.Statements.{statement, discard, object, on_object, inner_target, member_target, assign_property, block, loop, turn}
-use Rattle.qvt_metas.specs.Metamodels.{features_of}
+use Rattle.qvt_metamodel.specs.Metamodels.{features_of}
 use Rattle.qvt_relation.specs.Closure.{reaches_by}
 use Rattle.qvt_types_units.specs.Choice.{chosen as choice}
 use Rattle.qvt_ocl_words.specs.Operation.{operation, answered, on_valid, unless_null, on_present, on_integer, compared}

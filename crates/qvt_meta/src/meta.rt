@@ -6,7 +6,7 @@ ghost use Rattle.qvt_metamodel.specs.Checks.{same_name, unknown_type, inheritanc
 ghost use Rattle.qvt_metamodel.specs.MetaData.{class_names};
 ghost use Rattle.qvt_meta.specs.MetaOf.{checked, meta_of};
 ghost use Rattle.qvt_meta.specs.Numbers.{AreNumbers};
-ghost use Rattle.qvt_meta_lists.specs.Lists.{all_lists};
+ghost use Rattle.qvt_metamodel.specs.Lists.{all_lists};
 ghost use Rattle.qvt_metas.specs.Tables.{of_classes, AreTables};
 ghost use Rattle.qvt_metas.specs.Search.{IsAcyclic};
 

@@ -3,7 +3,7 @@
 ghost use Rattle.std.specs.Prelude.{◌≡◌, ◌<◌, ◌^◌, ℕ, [], map, length, IsTrue, IfOk, slice_index_or};
 ghost use Rattle.qvt_metas.specs.Metamodels.{among_features, nowhere_feature, features_of};
 ghost use Rattle.qvt_metas.specs.Added.{numbered};
-ghost use Rattle.qvt_meta_lists.specs.Lists.{all_lists};
+ghost use Rattle.qvt_metamodel.specs.Lists.{all_lists};
 ghost use Rattle.qvt_meta_repeats.specs.Flags.{name_flags};
 ghost use Rattle.qvt_meta.specs.Numbers.{AreNumbers, StandForNames};
 ghost use Rattle.qvt_metamodel.specs.Checks.{repeated_feature, same_feature};
@@ -13,7 +13,7 @@ use qvt_base::copied::Copied;
 use qvt_base::list_fault::ListFault;
 use qvt_base::numbers::FeatureNo;
 use qvt_base::text::Text;
-use qvt_meta_lists::lists::FeatureLists;
+use qvt_metamodel::lists::FeatureLists;
 use qvt_meta_names::feature_tables::{feature_table, name_numbers};
 use qvt_meta_repeats::repeats::Repeats;
 use qvt_metamodel::declared::MetaData;

@@ -11,7 +11,7 @@ use Rattle.qvt_metamodel.specs.Checks.{is_given_name, is_one_at_most, is_mutual,
 use Rattle.qvt_metamodel.specs.Added.{declared_at, nothing_declared}
 use Rattle.qvt_metamodel.proofs.Bools.{not_true, clash}
 use Rattle.qvt_metamodel.proofs.Halves.{Half, old, new, half, old-at, new-at}
-use Rattle.qvt_metamodel.proofs.Lists.{list_any-cong, list_any-none, all-every}
+use Rattle.qvt_metamodel.proofs.ListFacts.{list_any-cong, list_any-none, all-every}
 use Rattle.qvt_meta_checks.specs.declared.ends.OppositeEnd.{OppositeEnd}
 use Rattle.qvt_meta_checks.specs.declared.ends.Ends.{Ends}
 use Rattle.qvt_meta_checks.specs.Ends.{same_end, is_end, JoinedEnd, AreEnds, AreEndsOf, AreAllEnds, no_ends, may_not_be_contained}

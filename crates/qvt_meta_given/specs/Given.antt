@@ -3,7 +3,7 @@ use Rattle.std.specs.Prelude.{◌≡◌, ℕ, Bool, true, not, ◌&&◌, ◌==�
 use Rattle.std.specs.List.{list_all}
 use Rattle.qvt_base.specs.declared.numbers.ClassNo.{ClassNo}
 use Rattle.qvt_base.specs.declared.numbers.FeatureNo.{FeatureNo}
-use Rattle.qvt_json.specs.Repeated.{repeated}
+use Rattle.qvt_metamodel.specs.Repeated.{repeated}
 use Rattle.qvt_metamodel.specs.declared.given.ClassData.{ClassData}
 use Rattle.qvt_metamodel.specs.declared.given.FeatureData.{FeatureData}
 use Rattle.qvt_metamodel.specs.declared.info.FeatureInfo.{FeatureInfo}

@@ -5,13 +5,13 @@ ghost use Rattle.std.specs.List.{list_all};
 ghost use Rattle.std.specs.Map.{lookup};
 ghost use Rattle.std.specs.Option.{option_or};
 ghost use Rattle.std.specs.Str.{bytes_eq};
-ghost use Rattle.qvt_json.specs.Repeated.{repeated};
-ghost use Rattle.qvt_meta_lists.specs.Lists.{all_lists};
+ghost use Rattle.qvt_metamodel.specs.Repeated.{repeated};
+ghost use Rattle.qvt_metamodel.specs.Lists.{all_lists};
 ghost use Rattle.qvt_meta_repeats.specs.Flags.{name_flags};
 ghost use Rattle.qvt_meta_given.specs.Given.{name_in, are_named_apart, known_names};
 
 use qvt_base::list_fault::ListFault;
-use qvt_meta_lists::lists::FeatureLists;
+use qvt_metamodel::lists::FeatureLists;
 use qvt_meta_names::feature_tables::name_numbers;
 use qvt_meta_names::name_table::NameTable;
 use qvt_meta_repeats::repeats::Repeats;

@@ -1,13 +1,13 @@
 ghost use Rattle.std.specs.Prelude.{◌≡◌, ◌<◌, ◌≤◌, ◌+◌, ◌==◌, ℕ, length, position, slice_index_or, take, [], IfOk};
 ghost use Rattle.qvt_meta_names.specs.Named.{number_at};
-ghost use Rattle.qvt_meta_lists.specs.Lists.{all_lists};
+ghost use Rattle.qvt_metamodel.specs.Lists.{all_lists};
 ghost use Rattle.qvt_meta_names.specs.Rooted.{told_place, AreReady, FindsOn, FindsPlaces, ArePlaced};
 
 use crate::place_trees::{empty_tree, levels_for, put_word, tree_word};
 use qvt_base::list_fault::ListFault;
 use qvt_base::numbers::FeatureNo;
 use qvt_base::seq::Seq;
-use qvt_meta_lists::lists::FeatureLists;
+use qvt_metamodel::lists::FeatureLists;
 use std::alloc::Global;
 
 /// For each line of features a tree that finds the first place of a name by its number. The tree of a

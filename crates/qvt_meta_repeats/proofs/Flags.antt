@@ -6,8 +6,8 @@ use Rattle.std.proofs.lemmas.List.{take_more, length-append, length-map, length-
 use Rattle.std.proofs.lemmas.List.Folds.{list_any-append}
 use Rattle.std.proofs.lemmas.Option.{slice_get_within, get_or_from_slice_get}
 use Rattle.qvt_base.specs.declared.numbers.FeatureNo.{FeatureNo}
-use Rattle.qvt_meta_lists.specs.declared.front.Front.{Front}
-use Rattle.qvt_meta_lists.specs.Lists.{front_of, BeginsWith}
+use Rattle.qvt_metamodel.specs.declared.front.Front.{Front}
+use Rattle.qvt_metamodel.specs.Lists.{front_of, BeginsWith}
 use Rattle.qvt_metamodel.proofs.Lookups.{position-first}
 use Rattle.qvt_meta_names.proofs.Fronts.{position-none}
 use Rattle.qvt_meta_names.specs.Named.{number_at}

@@ -8,7 +8,7 @@ use Rattle.std.proofs.lemmas.Bool.Decides.{leb_tells}
 use Rattle.std.proofs.lemmas.List.Quantifiers.{position-Some}
 use Rattle.std.proofs.lemmas.Slice.Eq.{bytes_eq-Decides}
 use Rattle.qvt_base.specs.declared.numbers.FeatureNo.{FeatureNo}
-use Rattle.qvt_json.specs.Repeated.{repeated}
+use Rattle.qvt_metamodel.specs.Repeated.{repeated}
 use Rattle.qvt_metamodel.specs.Added.{place_in}
 use Rattle.qvt_metamodel.specs.Names.{is_among}
 use Rattle.qvt_metamodel.proofs.Bools.{clash, not_true, or_cases, or_left, or_right}

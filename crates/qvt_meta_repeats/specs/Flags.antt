@@ -4,7 +4,7 @@ use Rattle.std.specs.Prelude.{◌≡◌, ℕ, ◌==◌, Bool, List, [], ◌∷�
 use Rattle.std.specs.List.{list_any}
 use Rattle.std.specs.Str.{bytes_eq}
 use Rattle.qvt_base.specs.declared.numbers.FeatureNo.{FeatureNo}
-use Rattle.qvt_meta_lists.specs.declared.front.Front.{Front}
+use Rattle.qvt_metamodel.specs.declared.front.Front.{Front}
 use Rattle.qvt_meta_names.specs.Named.{number_at}
 use Rattle.qvt_meta_tables.specs.NumberSets.{has_number}
 

@@ -1,5 +1,5 @@
 ghost use Rattle.std.specs.Prelude.{◌≡◌, ◌<◌, ◌≤◌, ◌||◌, ◌∷◌, ◌++◌, [], length, map, position, slice_index_or, take, IfOk, OnOk};
-ghost use Rattle.qvt_meta_lists.specs.Lists.{front_of, IsLineFront};
+ghost use Rattle.qvt_metamodel.specs.Lists.{front_of, IsLineFront};
 ghost use Rattle.qvt_meta_names.specs.Named.{number_at};
 ghost use Rattle.qvt_meta_tables.specs.NumberSets.{has_number};
 ghost use Rattle.qvt_meta_repeats.specs.Flags.{number_flags, NamesAre};
@@ -7,8 +7,8 @@ ghost use Rattle.qvt_meta_repeats.specs.Flags.{number_flags, NamesAre};
 use qvt_base::list_fault::ListFault;
 use qvt_base::numbers::FeatureNo;
 use qvt_base::seq::Seq;
-use qvt_meta_lists::front::Front;
-use qvt_meta_lists::lists::FeatureLists;
+use qvt_metamodel::front::Front;
+use qvt_metamodel::lists::FeatureLists;
 use qvt_meta_tables::number_set::MarkedNumbers;
 use std::alloc::Global;
 use std::marker::Model;

@@ -1,10 +1,10 @@
 ghost use Rattle.std.specs.Prelude.{◌≡◌, [], map, position, slice_index_or, IfOk};
-ghost use Rattle.qvt_meta_lists.specs.Lists.{all_lists};
+ghost use Rattle.qvt_metamodel.specs.Lists.{all_lists};
 ghost use Rattle.qvt_meta_repeats.specs.Flags.{number_flags};
 
 use crate::line_flags::{LineFlags, all_line_flags};
 use qvt_base::list_fault::ListFault;
-use qvt_meta_lists::lists::FeatureLists;
+use qvt_metamodel::lists::FeatureLists;
 use std::alloc::Global;
 use std::marker::Model;
 

@@ -12,7 +12,7 @@ use Rattle.qvt_metamodel.specs.Descends.{is_superclass}
 use Rattle.qvt_metamodel.proofs.Ancestors.{live, reached}
 use Rattle.qvt_metamodel.proofs.Bools.{clash}
 use Rattle.qvt_metamodel.proofs.Infos.{map-at_all}
-use Rattle.qvt_metamodel.proofs.Lists.{list_any-map}
+use Rattle.qvt_metamodel.proofs.ListFacts.{list_any-map}
 use Rattle.qvt_meta_tables.specs.Tables.{of_classes}
 use Rattle.qvt_meta_tables.specs.Search.{IsSuper, IsAcyclic}
 use Rattle.qvt_meta_tables.specs.Cycles.{super_numbers, is_own_ancestor, cycle_from, first_cycle}

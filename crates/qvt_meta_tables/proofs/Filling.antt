@@ -11,7 +11,7 @@ use Rattle.qvt_metamodel.specs.declared.info.ClassInfo.{ClassInfo}
 use Rattle.qvt_metamodel.specs.Metamodels.{Metamodels, class_at, features_in, features_of, each_once, nowhere_class}
 use Rattle.qvt_metamodel.specs.Kept.{AreRanks}
 use Rattle.qvt_meta_tables.specs.Tables.{of_classes, IsOrder}
-use Rattle.qvt_metamodel.proofs.Lists.{all-imply, flat_map-cong}
+use Rattle.qvt_metamodel.proofs.ListFacts.{all-imply, flat_map-cong}
 use Rattle.qvt_metamodel.proofs.Stable.{features-stable, no-features-past}
 
 pub replicate-at : {X : Type 0} (n i : ℕ) (x : X) → get_or (replicate n x) i x ≡ x

@@ -16,7 +16,7 @@ use Rattle.qvt_metamodel.proofs.Ancestors.{one_more, none_past}
 use Rattle.qvt_metamodel.proofs.Bools.{and_left, and_right}
 use Rattle.qvt_metamodel.proofs.Rows.{no_mark}
 use Rattle.qvt_meta_tables.proofs.Filling.{done_next}
-use Rattle.qvt_metamodel.proofs.Lists.{all-imply, list_any-cong}
+use Rattle.qvt_metamodel.proofs.ListFacts.{all-imply, list_any-cong}
 
 or_assoc : (a b c r : Bool) → ((a || b || c) || r) ≡ (a || ((b || c) || r))
 or_assoc true b c r = refl

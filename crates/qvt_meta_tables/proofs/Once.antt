@@ -11,7 +11,7 @@ use Rattle.qvt_base.specs.declared.numbers.ClassNo.{ClassNo}
 use Rattle.qvt_base.specs.declared.numbers.FeatureNo.{FeatureNo}
 use Rattle.qvt_metamodel.specs.Metamodels.{among_features, each_once}
 use Rattle.qvt_metamodel.proofs.Bools.{not_true, clash, or_cases, or_left, or_right}
-use Rattle.qvt_metamodel.proofs.Lists.{once-append}
+use Rattle.qvt_metamodel.proofs.ListFacts.{once-append}
 use Rattle.qvt_metamodel.proofs.Owners.{among-append, once-from}
 use Rattle.qvt_meta_tables.specs.NumberSets.{has_number}
 use Rattle.qvt_meta_tables.specs.Placed.{IsOnce, AreIn, AreNew, AreNoted}

@@ -5,7 +5,7 @@ use Rattle.qvt_base.specs.declared.numbers.FeatureNo.{FeatureNo}
 use Rattle.qvt_metamodel.specs.declared.row.Row.{Row}
 use Rattle.qvt_metamodel.specs.Metamodels.{Metamodels, class_at, features_in, features_of, each_once}
 use Rattle.qvt_metamodel.specs.Kept.{AreRanks}
-use Rattle.qvt_metamodel.proofs.Lists.{all-every, flat_map-cong}
+use Rattle.qvt_metamodel.proofs.ListFacts.{all-every, flat_map-cong}
 use Rattle.qvt_meta_tables.specs.Tables.{of_classes, AreTables}
 
 -- what the tables hold depends on the classes alone

@@ -13,7 +13,7 @@ use Rattle.qvt_metamodel.specs.declared.info.ClassInfo.{ClassInfo}
 use Rattle.qvt_metamodel.specs.Metamodels.{class_at, nowhere_class}
 use Rattle.qvt_metamodel.proofs.Bools.{or_cases, or_left, or_right, and_both, clash}
 use Rattle.qvt_metamodel.proofs.Halves.{old-at, new-at}
-use Rattle.qvt_metamodel.proofs.Lists.{list_any-map, all-found}
+use Rattle.qvt_metamodel.proofs.ListFacts.{list_any-map, all-found}
 use Rattle.qvt_meta_tables.specs.declared.visit.Visit.{Visit}
 use Rattle.qvt_meta_tables.specs.declared.visit.Visit.TheVariants.{Enter, Leave}
 use Rattle.qvt_meta_tables.specs.Tables.{of_classes, IsOrder}

@@ -4,7 +4,7 @@ ghost use Rattle.std.specs.Prelude.{◌≡◌, ◌<◌, ◌≤◌, ◌∷◌, �
 ghost use Rattle.std.specs.List.{flat_map};
 ghost use Rattle.qvt_base.specs.declared.numbers.FeatureNo.{FeatureNo};
 ghost use Rattle.qvt_metamodel.specs.Metamodels.{each_once};
-ghost use Rattle.qvt_meta_lists.specs.Lists.{all_lists};
+ghost use Rattle.qvt_metamodel.specs.Lists.{all_lists};
 ghost use Rattle.qvt_meta_tables.specs.Placed.{IsOnce, HasJust, HasJustOf};
 
 use crate::number_set::MarkedNumbers;
@@ -12,7 +12,7 @@ use qvt_base::list_fault::ListFault;
 use qvt_base::lists::FeatureNoList;
 use qvt_base::numbers::{ClassNo, FeatureNo};
 use qvt_base::seq::Seq;
-use qvt_meta_lists::lists::FeatureLists;
+use qvt_metamodel::lists::FeatureLists;
 use std::alloc::Global;
 
 /// The features of the class that a list went on from, where it is known, and those put after them.

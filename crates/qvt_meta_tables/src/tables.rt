@@ -2,7 +2,7 @@
 
 ghost use Rattle.std.specs.Prelude.{◌≡◌, ℕ, [], length, IfOk, IsTrue, OnOk, slice_index_or, slice_set};
 ghost use Rattle.qvt_metamodel.specs.Metamodels.{features_of, nowhere_class};
-ghost use Rattle.qvt_meta_lists.specs.Lists.{all_lists};
+ghost use Rattle.qvt_metamodel.specs.Lists.{all_lists};
 ghost use Rattle.qvt_meta_tables.specs.Placed.{AreNew};
 ghost use Rattle.qvt_meta_tables.specs.Tables.{of_classes, IsOrder, AreTables};
 ghost use Rattle.qvt_meta_tables.specs.Search.{AreLive, IsAcyclic};
@@ -13,7 +13,7 @@ use crate::order::{Order, order_of};
 use crate::rows::rows_of;
 use qvt_base::list_fault::ListFault;
 use qvt_base::numbers::{ClassNo, FeatureNo};
-use qvt_meta_lists::lists::FeatureLists;
+use qvt_metamodel::lists::FeatureLists;
 use qvt_metamodel::info::ClassInfo;
 use qvt_metamodel::row::Row;
 use std::alloc::Global;

@@ -1,5 +1,5 @@
 pub mod Bools
-pub mod Lists
+pub mod ListFacts
 pub mod Halves
 pub mod Stable
 pub mod Infos
@@ -13,3 +13,4 @@ pub mod FeatureNames
 pub mod Positions
 pub mod Order
 pub mod Opposites
+pub mod Fronts

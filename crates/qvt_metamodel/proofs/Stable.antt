@@ -6,7 +6,7 @@ use Rattle.qvt_base.specs.declared.numbers.ClassNo.{ClassNo}
 use Rattle.qvt_metamodel.specs.declared.info.ClassInfo.{ClassInfo}
 use Rattle.qvt_metamodel.specs.Metamodels.{Metamodels, class_at, nowhere_class, features_in, each_once}
 use Rattle.qvt_metamodel.specs.Kept.{AreRanks}
-use Rattle.qvt_metamodel.proofs.Lists.{all-imply, flat_map-cong}
+use Rattle.qvt_metamodel.proofs.ListFacts.{all-imply, flat_map-cong}
 
 module _ (m : Metamodels) (ranks : List ℕ) (ok : AreRanks m ranks) where
   pub features-stable : (j k c : ℕ) → slice_index ranks c < j → slice_index ranks c < k → features_in j m c ≡ features_in k m c

@@ -1,3 +1,4 @@
+pub use Rattle.qvt_json.specs.Repeated
 pub mod Metamodels
 pub mod Descends
 pub mod Named
@@ -12,3 +13,4 @@ pub mod Checks
 pub mod Checked
 pub mod Numbered
 pub mod Extended
+pub mod Lists

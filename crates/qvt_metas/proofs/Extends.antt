@@ -7,7 +7,7 @@ use Rattle.std.proofs.lemmas.List.{length-append, length-map, get_or_past}
 use Rattle.std.proofs.lemmas.Bool.{eqb-true, ltb-true}
 use Rattle.qvt_base.specs.declared.numbers.ClassNo.{ClassNo}
 use Rattle.qvt_base.specs.declared.numbers.FeatureNo.{FeatureNo}
-use Rattle.qvt_json.specs.Repeated.{repeated}
+use Rattle.qvt_metamodel.specs.Repeated.{repeated}
 use Rattle.qvt_relation.specs.Closure.{directly, through}
 use Rattle.qvt_metamodel.specs.declared.given.ClassData.{ClassData}
 use Rattle.qvt_metamodel.specs.declared.given.FeatureData.{FeatureData}

@@ -13,7 +13,7 @@ use Rattle.qvt_metamodel.specs.WellFormed.{IsWellFormed, IsLiveKind}
 use Rattle.qvt_metamodel.specs.Kept.{IsKept, no_row}
 use Rattle.qvt_metamodel.specs.Joined.{FeaturesFit, KindFits, OppositeFits, ClassFits, FeatureFits}
 use Rattle.qvt_metamodel.proofs.Bools.{or_right}
-use Rattle.qvt_metamodel.proofs.Lists.{all-imply, all-found}
+use Rattle.qvt_metamodel.proofs.ListFacts.{all-imply, all-found}
 use Rattle.qvt_metas.proofs.JoinsKept.{all-at_index, all-among}
 
 among-right : (f : ℕ) (xs ys : List FeatureNo) → among_features f ys ≡ true → among_features f (xs ++ ys) ≡ true

@@ -22,7 +22,7 @@ use Rattle.qvt_metamodel.specs.Added.{added, numbered}
 use Rattle.qvt_metamodel.proofs.Ancestors.{reaches_kept}
 use Rattle.qvt_metamodel.proofs.Bools.{ap2, not_true, no-and}
 use Rattle.qvt_metamodel.proofs.Halves.{old-at}
-use Rattle.qvt_metamodel.proofs.Lists.{all-imply, all-found, flat_map-cong}
+use Rattle.qvt_metamodel.proofs.ListFacts.{all-imply, all-found, flat_map-cong}
 use Rattle.qvt_metamodel.proofs.Lookups.{position-left, position-none_past, find-cong}
 use Rattle.qvt_metamodel.proofs.Stable.{features-stable}
 use Rattle.qvt_metas.proofs.JoinsKept.{all-among, first_none}

@@ -18,7 +18,7 @@ use Rattle.qvt_metamodel.proofs.Ancestors.{Found, found, path, reached, reaches_
 use Rattle.qvt_metamodel.proofs.Bools.{ap2, not_true}
 use Rattle.qvt_metamodel.proofs.Halves.{Half, old, new, half, old-at, new-at}
 use Rattle.qvt_metamodel.proofs.Infos.{map-at}
-use Rattle.qvt_metamodel.proofs.Lists.{all-imply, all-every, all-found, list_any-cong, list_any-map, flat_map-cong, flat_map-map, map-flat_map, eqb-add, each_once-on}
+use Rattle.qvt_metamodel.proofs.ListFacts.{all-imply, all-every, all-found, list_any-cong, list_any-map, flat_map-cong, flat_map-map, map-flat_map, eqb-add, each_once-on}
 use Rattle.qvt_metamodel.proofs.Stable.{features-stable, no-features-past}
 
 module _ (m n : Metamodels) (rm rn : List ℕ) (wm : IsWellFormed m) (wn : IsWellFormed n) (am : AreRanks m rm) (an : AreRanks n rn) where

@@ -20,7 +20,7 @@ use Rattle.qvt_metamodel.specs.Joined.{class_on, feature_on, kind_on, class_info
 use Rattle.qvt_metamodel.proofs.Bools.{ap2, clash, not_true, or_left, or_right, no-and}
 use Rattle.qvt_metamodel.proofs.Halves.{Half, old, new, half, old-at, new-at}
 use Rattle.qvt_metamodel.proofs.Infos.{map-at}
-use Rattle.qvt_metamodel.proofs.Lists.{all-imply, all-every, list_any-cong, list_any-map, list_any-none, eqb-add, among-on}
+use Rattle.qvt_metamodel.proofs.ListFacts.{all-imply, all-every, list_any-cong, list_any-map, list_any-none, eqb-add, among-on}
 use Rattle.qvt_metamodel.proofs.Lookups.{position-left, position-right, position-cong, position-map, find-cong, find-map}
 use Rattle.qvt_metamodel.proofs.Ancestors.{path, ends}
 use Rattle.qvt_metamodel.proofs.Order.{acyclic, antisymmetric, transitive, inherited}

@@ -16,7 +16,7 @@ use Rattle.qvt_metamodel.proofs.Bools.{ap2, not_true, no-and}
 use Rattle.qvt_metamodel.proofs.Rows.{no_mark}
 use Rattle.qvt_metamodel.proofs.Halves.{Half, old, new, half, old-at, new-at}
 use Rattle.qvt_metamodel.proofs.Infos.{map-at, map-at_all}
-use Rattle.qvt_metamodel.proofs.Lists.{all-both, all-found}
+use Rattle.qvt_metamodel.proofs.ListFacts.{all-both, all-found}
 use Rattle.qvt_metas.proofs.Joins.{J, is_joined, class_count, class_old, class_new, features_old, features_new, reaches_old, reaches_new, reaches_new_old}
 use Rattle.qvt_metas.proofs.JoinsKept.{well_formed}
 

@@ -5,8 +5,8 @@ use Rattle.std.proofs.lemmas.List.{take-map}
 use Rattle.qvt_base.specs.declared.numbers.FeatureNo.{FeatureNo}
 use Rattle.qvt_metamodel.specs.declared.begin.Begin.{Begin}
 use Rattle.qvt_metamodel.specs.Joined.{feature_on, FeaturesFit}
-use Rattle.qvt_meta_lists.specs.declared.front.Front.{Front}
-use Rattle.qvt_meta_lists.specs.Lists.{front_of}
+use Rattle.qvt_metamodel.specs.declared.front.Front.{Front}
+use Rattle.qvt_metamodel.specs.Lists.{front_of}
 use Rattle.qvt_metas.specs.Held.{capped_on}
 
 features_capped : (b : Begin) (fs : List FeatureNo) → FeaturesFit b fs → map (capped_on b) fs ≡ map (feature_on b) fs

@@ -11,7 +11,7 @@ use Rattle.qvt_metamodel.specs.Metamodels.{Metamodels}
 use Rattle.qvt_metamodel.specs.Named.{class_named}
 use Rattle.qvt_metamodel.specs.Kept.{IsKept}
 use Rattle.qvt_metamodel.specs.declared.begin.Begin.{Begin}
-use Rattle.qvt_meta_lists.specs.Lists.{Lists, all_lists}
+use Rattle.qvt_metamodel.specs.Lists.{Lists, all_lists}
 use Rattle.qvt_meta_names.specs.Named.{numbers_of}
 use Rattle.qvt_meta_names.specs.declared.place_tables.PlaceTables.{PlaceTables}
 use Rattle.qvt_meta_names.specs.declared.enum_tables.EnumTable.{EnumTable}

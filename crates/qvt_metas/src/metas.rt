@@ -14,7 +14,7 @@ use qvt_base::copied::Copied;
 use qvt_base::list_fault::ListFault;
 use qvt_base::numbers::{ClassNo, FeatureNo};
 use qvt_base::text::Text;
-use qvt_meta_lists::lists::FeatureLists;
+use qvt_metamodel::lists::FeatureLists;
 use qvt_meta_names::class_tables::class_tables;
 use qvt_meta_names::enum_tables::{EnumTable, enum_tables};
 use qvt_meta_names::feature_tables::{feature_table, name_numbers};
@@ -140,7 +140,7 @@ impl Metas {
     }
 
     ghost use Rattle.qvt_metamodel.specs.Kept.{IsKept};
-    ghost use Rattle.qvt_meta_lists.specs.Lists.{all_lists};
+    ghost use Rattle.qvt_metamodel.specs.Lists.{all_lists};
 
     /// Adds a metamodel: its numbers go on from those that are there, which stay. It is refused
     /// where a metamodel of its name is there. A refused call changes nothing. Where the class

@@ -1,6 +1,6 @@
 ghost use Rattle.std.specs.Prelude.{◌≡◌, None};
 
-use qvt_meta_lists::lists::FeatureLists;
+use qvt_metamodel::lists::FeatureLists;
 use qvt_meta_tables::tables::Tables;
 use qvt_metamodel::info::{ClassInfo, FeatureInfo, MetamodelInfo};
 use qvt_metamodel::row::Row;
@@ -33,7 +33,7 @@ impl Model for Numbered {
     ghost use Rattle.std.specs.Prelude.{None};
     ghost use Rattle.qvt_metamodel.specs.Metamodels.{Metamodels};
     ghost use Rattle.qvt_metamodel.specs.Kept.{IsKept};
-    ghost use Rattle.qvt_meta_lists.specs.Lists.{all_lists};
+    ghost use Rattle.qvt_metamodel.specs.Lists.{all_lists};
 
     ghost Value = { Metamodels };
 
@@ -45,7 +45,7 @@ impl Model for Numbered {
 impl Numbered {
     ghost use Rattle.qvt_metamodel.specs.Metamodels.{Metamodels};
     ghost use Rattle.qvt_metamodel.specs.Kept.{IsKept};
-    ghost use Rattle.qvt_meta_lists.specs.Lists.{all_lists};
+    ghost use Rattle.qvt_metamodel.specs.Lists.{all_lists};
 
     /// The metamodels of these parts. It takes no memory.
     pub fn from_parts(

@@ -3,7 +3,7 @@
 use Rattle.std.specs.Prelude.{ℕ, List, [], ◌∷◌, ◌++◌, map, position, Option, Some, None, Result, Ok, Err}
 use Rattle.std.specs.Str.{bytes_eq}
 use Rattle.qvt_conform.specs.declared.fault.LowFault.{LowFault}
-use Rattle.qvt_metas.specs.Metamodels.{feature_at}
+use Rattle.qvt_metamodel.specs.Metamodels.{feature_at}
 use Rattle.qvt_model.specs.Extents.{data_of}
 use Rattle.qvt_model.specs.RunIds.{run_id}
 use Rattle.qvt_model.specs.Written.{model_text}

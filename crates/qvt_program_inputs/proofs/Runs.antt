@@ -5,9 +5,9 @@ use Rattle.std.specs.List.{list_any, AllByRecursion}
 use Rattle.std.specs.Str.{bytes_eq}
 use Rattle.std.proofs.lemmas.Bool.{ltb-true, cases_lt}
 use Rattle.std.proofs.lemmas.List.{length-map}
-use Rattle.qvt_metas.specs.Metamodels.{Metamodels}
-use Rattle.qvt_metas.specs.Extended.{unnamed}
-use Rattle.qvt_metas.specs.Named.{metamodel_at, nowhere_metamodel}
+use Rattle.qvt_metamodel.specs.Metamodels.{Metamodels}
+use Rattle.qvt_metamodel.specs.Extended.{unnamed}
+use Rattle.qvt_metamodel.specs.Named.{metamodel_at, nowhere_metamodel}
 use Rattle.qvt_tree_types.specs.Module.{ModuleTerm}
 use Rattle.qvt_tree_types.specs.declared.module.ModelParam.{ModelParam}
 use Rattle.qvt_types_paths.specs.declared.models.ModelRow.{ModelRow}

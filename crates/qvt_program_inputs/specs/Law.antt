@@ -1,7 +1,7 @@
 -- The inputs of a job can be loaded for a program whose parameters are the job's models.
 use Rattle.std.specs.Prelude.{◌≡◌, ◌≢◌, [], None, Ok}
 use Rattle.std.specs.List.{AllByRecursion}
-use Rattle.qvt_metas.specs.Metamodels.{Metamodels}
+use Rattle.qvt_metamodel.specs.Metamodels.{Metamodels}
 use Rattle.qvt_tree_types.specs.Module.{ModuleTerm}
 use Rattle.qvt_typing.specs.Accepts.{ProgramTerm, accepts}
 use Rattle.qvt_job.specs.declared.job.Job.{Job}

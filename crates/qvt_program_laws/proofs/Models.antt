@@ -6,9 +6,9 @@ use Rattle.std.specs.Str.{bytes_eq}
 use Rattle.std.proofs.lemmas.List.{length-map}
 use Rattle.std.proofs.lemmas.List.Quantifiers.{position-Some}
 use Rattle.qvt_base.specs.declared.numbers.Place.{Place}
-use Rattle.qvt_metas.specs.Extended.{extended}
-use Rattle.qvt_metas.specs.Metamodels.{Metamodels}
-use Rattle.qvt_metas.specs.Named.{nowhere_metamodel}
+use Rattle.qvt_metamodel.specs.Extended.{extended}
+use Rattle.qvt_metamodel.specs.Metamodels.{Metamodels}
+use Rattle.qvt_metamodel.specs.Named.{nowhere_metamodel}
 use Rattle.qvt_tree_types.specs.Module.{ModuleTerm, UnitTerm}
 use Rattle.qvt_tree_types.specs.declared.module.ModelParam.{ModelParam}
 use Rattle.qvt_tree_types.specs.declared.module.ModelType.{ModelType}

@@ -1,7 +1,7 @@
 -- The models of an accepted program have metamodels (QVT 1.3, 8.2.1.5 and 8.2.1.6).
 use Rattle.std.specs.Prelude.{◌≡◌, ◌<◌, ℕ, ◌∷◌, ◌++◌, [], map, length, Ok, Some}
-use Rattle.qvt_metas.specs.Extended.{unnamed}
-use Rattle.qvt_metas.specs.Metamodels.{Metamodels}
+use Rattle.qvt_metamodel.specs.Extended.{unnamed}
+use Rattle.qvt_metamodel.specs.Metamodels.{Metamodels}
 use Rattle.qvt_tree_types.specs.Module.{ModuleTerm}
 use Rattle.qvt_typing.specs.Accepts.{ProgramTerm, accepts}
 use Rattle.qvt_types_program.specs.Extents.{row_at}

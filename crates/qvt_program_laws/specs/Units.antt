@@ -1,6 +1,6 @@
 -- The units of an accepted program by their numbers, and its mappings by theirs (QVT 1.3, 8.2.1.10 and 8.2.1.15).
 use Rattle.std.specs.Prelude.{◌≡◌, ◌<◌, ℕ, length, Ok, Some}
-use Rattle.qvt_metas.specs.Metamodels.{Metamodels}
+use Rattle.qvt_metamodel.specs.Metamodels.{Metamodels}
 use Rattle.qvt_tree_types.specs.Module.{ModuleTerm}
 use Rattle.qvt_types_nodes.specs.Module.{TypedMappingTerm, TypedMappingOf}
 use Rattle.qvt_typing.specs.Accepts.{ProgramTerm, accepts}

@@ -4,9 +4,9 @@ use Rattle.std.specs.List.{list_all}
 use Rattle.qvt_base.specs.declared.numbers.Oid.{Oid}
 use Rattle.qvt_metamodel.specs.declared.info.TypeKind.{TypeKind}
 use Rattle.qvt_metamodel.specs.declared.info.TypeKind.TheVariants.{Bool as BoolKind, Int as IntKind, Str as StrKind, Enum as EnumKind, Class as ClassKind}
-use Rattle.qvt_metas.specs.Metamodels.{Metamodels, shape_of, has_feature}
-use Rattle.qvt_metas.specs.Descends.{descends, is_class_kind}
-use Rattle.qvt_metas.specs.WellFormed.{IsWellFormed, IsRegular, Regular}
+use Rattle.qvt_metamodel.specs.Metamodels.{Metamodels, shape_of, has_feature}
+use Rattle.qvt_metamodel.specs.Descends.{descends, is_class_kind}
+use Rattle.qvt_metamodel.specs.WellFormed.{IsWellFormed, IsRegular, Regular}
 use Rattle.qvt_slots.specs.Contents.{Contents, class_of, is_live}
 use Rattle.qvt_slots.specs.Types.{is_of_kind, is_of_type}
 use Rattle.qvt_typing.specs.Accepts.{ProgramTerm}

@@ -2,8 +2,8 @@
 use Rattle.std.proofs.Common.{◌≡◌, ◌∙◌, ℕ, zero, suc, ◌+◌, Bool, true, false, nat_lt, ◌&&◌, if◌then◌else◌, refl, sym, ap, subst, List, [], ◌∷◌, ◌++◌, length, Option, Some, None, Result, Ok, Err}
 use Rattle.qvt_base.specs.declared.numbers.Oid.{Oid}
 use Rattle.qvt_base.specs.declared.numbers.Place.{Place}
-use Rattle.qvt_metas.specs.Metamodels.{Metamodels, is_single, shape_of, has_feature}
-use Rattle.qvt_metas.specs.Descends.{is_class_kind}
+use Rattle.qvt_metamodel.specs.Metamodels.{Metamodels, is_single, shape_of, has_feature}
+use Rattle.qvt_metamodel.specs.Descends.{is_class_kind}
 use Rattle.qvt_slots.specs.declared.fault.StoreFault.{StoreFault}
 use Rattle.qvt_slots.specs.declared.op.SetOp.{SetOp}
 use Rattle.qvt_slots.specs.Assign.{write}

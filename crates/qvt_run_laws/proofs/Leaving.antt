@@ -3,7 +3,7 @@ use Rattle.std.proofs.Common.{◌≡◌, ◌∙◌, ℕ, true, ◌==◌, ◌&&�
 use Rattle.std.specs.List.{list_all}
 use Rattle.std.proofs.lemmas.Bool.{ltb-true}
 use Rattle.std.proofs.lemmas.Bool.Decides.{Decides-eqb}
-use Rattle.qvt_metas.specs.Metamodels.{class_at, has_feature}
+use Rattle.qvt_metamodel.specs.Metamodels.{class_at, has_feature}
 use Rattle.qvt_relation.proofs.Bools.{and_left, and_right, not_true}
 use Rattle.qvt_slots.specs.declared.fault.StoreFault.{StoreFault}
 use Rattle.qvt_slots.specs.Contents.{Contents, class_of, extent_at, is_extent, is_live, is_slot}

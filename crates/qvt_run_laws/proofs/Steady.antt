@@ -1,7 +1,7 @@
 -- Steps that keep the cost.
 use Rattle.std.proofs.Common.{◌≡◌, ℕ, Bool, true, false, nat_lt, if◌then◌else◌, refl, List, length, Some, None, Result, Ok, Err}
 use Rattle.qvt_base.specs.declared.numbers.Place.{Place}
-use Rattle.qvt_metas.specs.Metamodels.{is_single}
+use Rattle.qvt_metamodel.specs.Metamodels.{is_single}
 use Rattle.qvt_slots.specs.declared.fault.StoreFault.{StoreFault}
 use Rattle.qvt_slots.specs.Assign.{write}
 use Rattle.qvt_slots.specs.Contents.{Contents}

@@ -2,9 +2,9 @@
 -- the slot. So the objects that answer it can be assigned to the slot.
 use Rattle.std.specs.Prelude.{◌≡◌, ℕ, map, Ok, IsTrue}
 use Rattle.std.specs.List.{All}
-use Rattle.qvt_metas.specs.Metamodels.{shape_of}
-use Rattle.qvt_metas.specs.Descends.{is_class_kind}
-use Rattle.qvt_metas.specs.WellFormed.{IsWellFormed}
+use Rattle.qvt_metamodel.specs.Metamodels.{shape_of}
+use Rattle.qvt_metamodel.specs.Descends.{is_class_kind}
+use Rattle.qvt_metamodel.specs.WellFormed.{IsWellFormed}
 use Rattle.qvt_slots.specs.Contents.{Contents, is_slot}
 use Rattle.qvt_slots.specs.Types.{IsAssignable}
 use Rattle.qvt_typing.specs.Accepts.{ProgramTerm}

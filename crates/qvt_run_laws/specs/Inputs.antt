@@ -1,7 +1,7 @@
 -- A run changes no object of a model of direction in (QVT 1.3, 8.2.1.5 ModelParameter): each is there, of its class, in its extent, with its
 -- slots and in its container. (That no object is made in such a model is asked of a program by its typing.)
 use Rattle.std.specs.Prelude.{◌≡◌, ℕ, Ok, IsTrue, IsFalse}
-use Rattle.qvt_metas.specs.Metamodels.{is_containment}
+use Rattle.qvt_metamodel.specs.Metamodels.{is_containment}
 use Rattle.qvt_slots.specs.Slots.{has}
 use Rattle.qvt_slots.specs.Contents.{Contents, is_live, is_writable, slot_of}
 use Rattle.qvt_store_laws.specs.Sound.{Sound}

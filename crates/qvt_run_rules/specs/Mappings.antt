@@ -3,8 +3,8 @@
 use Rattle.std.specs.Prelude.{ℕ, Bool, true, false, if◌then◌else◌, List, [], ◌∷◌, ◌++◌, length, take, Option, Some, None}
 use Rattle.qvt_base.specs.declared.numbers.Oid.{Oid}
 use Rattle.qvt_base.specs.declared.numbers.Place.{Place}
-use Rattle.qvt_metas.specs.Metamodels.{class_at}
-use Rattle.qvt_metas.specs.Descends.{descends}
+use Rattle.qvt_metamodel.specs.Metamodels.{class_at}
+use Rattle.qvt_metamodel.specs.Descends.{descends}
 use Rattle.qvt_slots.specs.Contents.{class_of}
 use Rattle.qvt_types_data.specs.declared.ty.Ty.TheVariants as ty
 use Rattle.qvt_value.specs.declared.value.Value.{Value, Null, Obj}

@@ -4,8 +4,8 @@ use Rattle.std.specs.Prelude.{ℕ, ◌+◌, Bool, true, false, if◌then◌else�
 use Rattle.std.specs.List.{list_all}
 use Rattle.qvt_base.specs.declared.numbers.Oid.{Oid}
 use Rattle.qvt_base.specs.declared.numbers.Place.{Place}
-use Rattle.qvt_metas.specs.Metamodels.{shape_of}
-use Rattle.qvt_metas.specs.Descends.{is_class_kind}
+use Rattle.qvt_metamodel.specs.Metamodels.{shape_of}
+use Rattle.qvt_metamodel.specs.Descends.{is_class_kind}
 use Rattle.qvt_slots.specs.Contents.{Contents, is_live}
 use Rattle.qvt_value.specs.declared.value.Value.{Value, Null, Bool as Truth, Obj, Invalid as NotValid}
 use Rattle.qvt_value.specs.declared.value.Value.TheViews.{Coll}

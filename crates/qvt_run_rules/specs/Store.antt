@@ -3,7 +3,7 @@ use Rattle.std.specs.Prelude.{ℕ, Bool, true, false, ◌==◌, ◌&&◌, nat_lt
 use Rattle.std.specs.List.{list_all}
 use Rattle.qvt_base.specs.declared.numbers.Oid.{Oid}
 use Rattle.qvt_base.specs.declared.numbers.Place.{Place}
-use Rattle.qvt_metas.specs.Metamodels.{Metamodels, class_at, shape_of, is_single}
+use Rattle.qvt_metamodel.specs.Metamodels.{Metamodels, class_at, shape_of, is_single}
 use Rattle.qvt_metamodel.specs.declared.info.FeatureShape.{FeatureShape}
 use Rattle.qvt_relation.specs.Closure.{any_below}
 use Rattle.qvt_value.specs.declared.value.Value.{Value, Null, Obj, Coll', items-the_row-Value}

@@ -3,7 +3,7 @@ use Rattle.std.specs.Prelude.{ℕ, ◌==◌, Bool, true, false, ◌&&◌, if◌t
 use Rattle.std.specs.List.{list_any, flat_map, filter_map, fold}
 use Rattle.qvt_base.specs.declared.numbers.MappingNo.{MappingNo}
 use Rattle.qvt_base.specs.declared.numbers.Oid.{Oid}
-use Rattle.qvt_metas.specs.Descends.{descends}
+use Rattle.qvt_metamodel.specs.Descends.{descends}
 use Rattle.qvt_ocl_words.specs.Lists.{same}
 use Rattle.qvt_slots.specs.Contents.{Contents, class_of, is_live}
 use Rattle.qvt_value.specs.declared.value.Value.{Value}

@@ -5,7 +5,7 @@ use Rattle.std.specs.List.{list_any}
 use Rattle.qvt_base.specs.declared.numbers.FeatureNo.{FeatureNo}
 use Rattle.qvt_base.specs.declared.numbers.Oid.{Oid}
 use Rattle.qvt_value.specs.declared.value.Value.{Value}
-use Rattle.qvt_metas.specs.Metamodels.{Metamodels, shape_of, opposite, is_containment}
+use Rattle.qvt_metamodel.specs.Metamodels.{Metamodels, shape_of, opposite, is_containment}
 use Rattle.qvt_relation.proofs.Bools.{or_left, or_right, or_none, none_left, none_right, not_of_false, clash}
 use Rattle.qvt_slots.specs.declared.cell.Cell.{Cell}
 use Rattle.qvt_slots.specs.declared.cell.Marks.{Marks}

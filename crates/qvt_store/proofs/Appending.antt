@@ -4,7 +4,7 @@ use Rattle.std.specs.Prelude.{filter, Option, Some, None, SomeIff, ◌^◌, ◌<
 use Rattle.std.specs.List.{list_any}
 use Rattle.qvt_base.specs.declared.numbers.Oid.{Oid}
 use Rattle.qvt_value.specs.declared.value.Value.{Value}
-use Rattle.qvt_metas.specs.Metamodels.{Metamodels, shape_of}
+use Rattle.qvt_metamodel.specs.Metamodels.{Metamodels, shape_of}
 use Rattle.qvt_relation.proofs.Bools.{or_left}
 use Rattle.qvt_slots.specs.Change.{oid_of, is_new_object, objects_beyond, is_here, slot_elsewhere}
 use Rattle.qvt_slots.specs.Contents.{Contents, slot_of, extent_of, is_model}

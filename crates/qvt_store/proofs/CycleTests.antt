@@ -3,7 +3,7 @@ use Rattle.std.proofs.Common.{◌≡◌, ℕ, zero, suc, ◌+◌, ◌<◌, true,
 use Rattle.std.specs.Prelude.{slice_get, slice_index_or, Some, None}
 use Rattle.std.proofs.lemmas.Bool.Decides.{Decides-eqb}
 use Rattle.qvt_base.specs.declared.numbers.Oid.{Oid}
-use Rattle.qvt_metas.specs.Metamodels.{Metamodels, is_containment}
+use Rattle.qvt_metamodel.specs.Metamodels.{Metamodels, is_containment}
 use Rattle.qvt_relation.proofs.Bools.{or_cases, or_left, clash}
 use Rattle.qvt_slots.specs.Slots.{Slots}
 use Rattle.qvt_slots.specs.Change.{Change, among_objects, is_container}

@@ -3,8 +3,8 @@ use Rattle.std.proofs.Common.{◌≡◌, ℕ, ◌≤◌, true, false, ◌&&◌, 
 use Rattle.std.specs.Prelude.{Option, Some, None}
 use Rattle.std.proofs.lemmas.Bool.Decides.{Decides-eqb}
 use Rattle.qvt_base.specs.declared.numbers.FeatureNo.{FeatureNo}
-use Rattle.qvt_metas.specs.Metamodels.{Metamodels, opposite, is_opposite, is_feature_number, is_containment, is_single}
-use Rattle.qvt_metas.specs.WellFormed.{IsWellFormed}
+use Rattle.qvt_metamodel.specs.Metamodels.{Metamodels, opposite, is_opposite, is_feature_number, is_containment, is_single}
+use Rattle.qvt_metamodel.specs.WellFormed.{IsWellFormed}
 use Rattle.qvt_relation.proofs.Bools.{and_left, and_right, and_both, and_false, and_false_left, or_none, either, refuted, clash, none_of}
 use Rattle.qvt_slots.specs.Slots.{Slots, has, Contains, Inside, directly, through}
 use Rattle.qvt_slots.specs.Change.{Change, is_some_object, is_here, is_added, names_containment, is_container, gains, is_taken, is_replaced, is_moved_in, is_moved, leaves, is_left, slot_after}

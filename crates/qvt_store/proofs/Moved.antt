@@ -1,7 +1,7 @@
 -- What holds of cells after one slot is set.
 use Rattle.std.proofs.Common.{◌≡◌, ℕ, ◌<◌, Bool, true, sym, subst, List, length}
 use Rattle.std.proofs.lemmas.Bool.{ltb-true}
-use Rattle.qvt_metas.specs.Metamodels.{Metamodels, has_feature}
+use Rattle.qvt_metamodel.specs.Metamodels.{Metamodels, has_feature}
 use Rattle.qvt_relation.proofs.Bools.{and_left, and_right}
 use Rattle.qvt_slots.specs.declared.cell.Cell.{Cell}
 use Rattle.qvt_slots.specs.declared.commit.Write.{Write}

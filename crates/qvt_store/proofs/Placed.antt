@@ -6,7 +6,7 @@ use Rattle.std.proofs.lemmas.Bool.Decides.{Decides-eqb}
 use Rattle.std.proofs.lemmas.Bool.{ltb-true}
 use Rattle.qvt_base.specs.declared.numbers.Oid.{Oid}
 use Rattle.qvt_value.specs.declared.value.Value.{Value}
-use Rattle.qvt_metas.specs.Metamodels.{Metamodels, features_of, has_feature, is_containment, shape_of}
+use Rattle.qvt_metamodel.specs.Metamodels.{Metamodels, features_of, has_feature, is_containment, shape_of}
 use Rattle.qvt_relation.proofs.Bools.{and_left, and_right, and_both, not_true, either, clash, refuted}
 use Rattle.qvt_slots.specs.declared.cell.Holder.{Holder}
 use Rattle.qvt_slots.specs.declared.cell.Cell.{Cell}

@@ -6,7 +6,7 @@ use Rattle.std.proofs.lemmas.Bool.Decides.{Decides-eqb}
 use Rattle.qvt_base.specs.declared.numbers.FeatureNo.{FeatureNo}
 use Rattle.qvt_base.specs.declared.numbers.Oid.{Oid}
 use Rattle.qvt_value.specs.declared.value.Value.{Value}
-use Rattle.qvt_metas.specs.Metamodels.{Metamodels, opposite, is_opposite, is_containment, is_feature_number}
+use Rattle.qvt_metamodel.specs.Metamodels.{Metamodels, opposite, is_opposite, is_containment, is_feature_number}
 use Rattle.qvt_relation.proofs.Bools.{and_both, or_cases, or_left, or_right, or_false, clash}
 use Rattle.qvt_slots.specs.declared.cell.Holder.{Holder}
 use Rattle.qvt_slots.specs.declared.commit.Write.{Write}

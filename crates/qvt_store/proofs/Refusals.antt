@@ -7,8 +7,8 @@ use Rattle.std.proofs.lemmas.Bool.Decides.{Decides-eqb}
 use Rattle.qvt_base.specs.declared.numbers.FeatureNo.{FeatureNo}
 use Rattle.qvt_base.specs.declared.numbers.Oid.{Oid}
 use Rattle.qvt_value.specs.declared.value.Value.{Value}
-use Rattle.qvt_metas.specs.Metamodels.{opposite, is_opposite, is_feature_number, shape_of}
-use Rattle.qvt_metas.specs.WellFormed.{IsWellFormed}
+use Rattle.qvt_metamodel.specs.Metamodels.{opposite, is_opposite, is_feature_number, shape_of}
+use Rattle.qvt_metamodel.specs.WellFormed.{IsWellFormed}
 use Rattle.qvt_relation.proofs.Bools.{and_left, clash, refuted}
 use Rattle.qvt_slots.specs.declared.draft.Draft.{Draft}
 use Rattle.qvt_slots.specs.declared.fault.StoreFault.{StoreFault}

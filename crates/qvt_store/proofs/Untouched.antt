@@ -1,8 +1,8 @@
 -- A slot that no rule names has the list that it had.
 use Rattle.std.proofs.Common.{◌≡◌, ℕ, true, false, refl, ap, ◌∙◌, subst, List, []}
 use Rattle.std.proofs.lemmas.List.Elements.{All-nil}
-use Rattle.qvt_metas.specs.Metamodels.{is_opposite, is_containment}
-use Rattle.qvt_metas.specs.WellFormed.{IsWellFormed}
+use Rattle.qvt_metamodel.specs.Metamodels.{is_opposite, is_containment}
+use Rattle.qvt_metamodel.specs.WellFormed.{IsWellFormed}
 use Rattle.qvt_relation.proofs.Bools.{clash}
 use Rattle.qvt_slots.specs.declared.commit.Write.{Write}
 use Rattle.qvt_slots.specs.Slots.{Slots, has}

@@ -4,7 +4,7 @@ use Rattle.std.specs.List.{list_any}
 use Rattle.qvt_base.specs.declared.numbers.FeatureNo.{FeatureNo}
 use Rattle.qvt_base.specs.declared.numbers.Oid.{Oid}
 use Rattle.qvt_value.specs.declared.value.Value.{Value}
-use Rattle.qvt_metas.specs.Metamodels.{shape_of, opposite}
+use Rattle.qvt_metamodel.specs.Metamodels.{shape_of, opposite}
 use Rattle.qvt_slots.specs.declared.fault.StoreFault.{StoreFault}
 use Rattle.qvt_slots.specs.declared.fault.StoreFault.TheVariants.{TooMany, ContainmentCycle, ReadOnly, NoMemory}
 use Rattle.qvt_slots.specs.declared.draft.Draft.{Draft}

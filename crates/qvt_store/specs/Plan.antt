@@ -2,7 +2,7 @@
 use Rattle.std.specs.Prelude.{◌≡◌, ℕ, List, IsTrue, IsFalse, All}
 use Rattle.qvt_base.specs.declared.numbers.Oid.{Oid}
 use Rattle.qvt_value.specs.declared.value.Value.{Value}
-use Rattle.qvt_metas.specs.Metamodels.{is_containment, is_opposite}
+use Rattle.qvt_metamodel.specs.Metamodels.{is_containment, is_opposite}
 use Rattle.qvt_slots.specs.declared.commit.Write.{Write}
 use Rattle.qvt_slots.specs.Slots.{has}
 pub use Rattle.qvt_slots.specs.Listed.{is_write_of, listed}

@@ -3,14 +3,14 @@ use Rattle.std.specs.Prelude.{◌≡◌, ℕ, Bool, not, List, ◌++◌, length,
 use Rattle.std.specs.List.{list_all, list_any}
 use Rattle.qvt_base.specs.declared.numbers.Oid.{Oid}
 use Rattle.qvt_value.specs.declared.value.Value.{Value}
-use Rattle.qvt_metas.specs.Metamodels.{shape_of}
+use Rattle.qvt_metamodel.specs.Metamodels.{shape_of}
 use Rattle.qvt_slots.specs.declared.commit.Write.{Write}
 use Rattle.qvt_slots.specs.declared.draft.Draft.{Draft}
 use Rattle.qvt_slots.specs.Change.{Change, is_linked, slot_after, slot_elsewhere}
 use Rattle.qvt_slots.specs.Contents.{Contents, is_slot, is_writable, slot_of}
 use Rattle.qvt_slots.specs.Types.{is_of_type, AreTyped, IsAssignable}
 use Rattle.qvt_slots.specs.Slots.{Inside}
-use Rattle.qvt_metas.specs.WellFormed.{IsWellFormed}
+use Rattle.qvt_metamodel.specs.WellFormed.{IsWellFormed}
 use Rattle.qvt_value.specs.Kept.{is_same}
 use Rattle.qvt_value.specs.Order.{order_of}
 use Rattle.qvt_slots.specs.Repeats.{repeats, new_list}

@@ -1,7 +1,7 @@
 ghost use Rattle.std.specs.Prelude.{◌≡◌, ◌<◌, ◌≤◌, [], length, IsTrue, IfOk, IfErr, OnOk, OnErr, IfSome, ℕ};
 ghost use Rattle.qvt_slots.specs.Slots.{Contains, has};
 ghost use Rattle.qvt_slots.specs.Cells.{holder_in};
-ghost use Rattle.qvt_metas.specs.Metamodels.{has_feature, is_containment};
+ghost use Rattle.qvt_metamodel.specs.Metamodels.{has_feature, is_containment};
 ghost use Rattle.qvt_slots.specs.Contents.{AreNamed, is_live, is_extent, class_of, extent_of, slot_of, members_of, with_new};
 ghost use Rattle.qvt_slots.specs.Limits.{most_objects};
 ghost use Rattle.qvt_slots.specs.Members.{AreEmpty};

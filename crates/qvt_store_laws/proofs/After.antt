@@ -8,9 +8,9 @@ use Rattle.qvt_base.specs.declared.numbers.FeatureNo.{FeatureNo}
 use Rattle.qvt_value.specs.declared.value.Value.{Value}
 use Rattle.qvt_metamodel.specs.declared.info.TypeKind.{TypeKind}
 use Rattle.qvt_metamodel.specs.declared.info.TypeKind.TheVariants.{Bool as BoolKind, Int as IntKind, Str as StrKind, Enum as EnumKind, Class as ClassKind}
-use Rattle.qvt_metas.specs.Metamodels.{Metamodels, is_opposite, features_of, has_feature, among_features, shape_of}
-use Rattle.qvt_metas.specs.Descends.{descends, is_class_kind}
-use Rattle.qvt_metas.specs.WellFormed.{IsWellFormed}
+use Rattle.qvt_metamodel.specs.Metamodels.{Metamodels, is_opposite, features_of, has_feature, among_features, shape_of}
+use Rattle.qvt_metamodel.specs.Descends.{descends, is_class_kind}
+use Rattle.qvt_metamodel.specs.WellFormed.{IsWellFormed}
 use Rattle.qvt_relation.proofs.Bools.{and_left, and_right, and_both, either, clash, refuted}
 use Rattle.qvt_slots.specs.Slots.{has, object_in, passes}
 use Rattle.qvt_slots.specs.Change.{Change, object_value, is_here, is_added, gains, keeps, with_end, slot_after}

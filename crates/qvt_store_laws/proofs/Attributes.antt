@@ -4,7 +4,7 @@ use Rattle.std.specs.Prelude.{nat_lt}
 use Rattle.std.proofs.lemmas.Bool.Decides.{Decides-eqb}
 use Rattle.qvt_base.specs.declared.numbers.Oid.{Oid}
 use Rattle.qvt_value.specs.declared.value.Value.{Value}
-use Rattle.qvt_metas.specs.Metamodels.{Metamodels}
+use Rattle.qvt_metamodel.specs.Metamodels.{Metamodels}
 use Rattle.qvt_relation.proofs.Bools.{and_left, and_right}
 use Rattle.qvt_slots.specs.declared.cell.Cell.{Cell}
 use Rattle.qvt_slots.specs.declared.extent.Extent.{Extent}

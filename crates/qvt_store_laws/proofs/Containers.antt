@@ -1,8 +1,8 @@
 -- A change keeps that an object stands in one containment slot at most.
 use Rattle.std.proofs.Common.{◌≡◌, ℕ, ◌≤◌, true, false, inl, inr, sym, ◌∙◌, subst, length}
 use Rattle.std.proofs.lemmas.Bool.Decides.{Decides-eqb}
-use Rattle.qvt_metas.specs.Metamodels.{opposite, is_opposite, is_containment}
-use Rattle.qvt_metas.specs.WellFormed.{IsWellFormed}
+use Rattle.qvt_metamodel.specs.Metamodels.{opposite, is_opposite, is_containment}
+use Rattle.qvt_metamodel.specs.WellFormed.{IsWellFormed}
 use Rattle.qvt_relation.proofs.Bools.{and_left, and_right, and_both, or_left, not_of_false, either, clash, third_of_4, fourth_of_4}
 use Rattle.qvt_slots.specs.Slots.{has, OneContainer}
 use Rattle.qvt_slots.specs.Change.{Change, is_here, is_container, gains, is_taken, is_replaced, is_moved_in, is_moved, leaves, loses, slot_after}

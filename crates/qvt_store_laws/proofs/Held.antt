@@ -3,7 +3,7 @@ use Rattle.std.proofs.Common.{◌≡◌, ℕ, Bool, true, false, inl, inr, ◌==
 use Rattle.std.specs.Prelude.{filter}
 use Rattle.std.proofs.lemmas.Bool.Decides.{Decides-eqb}
 use Rattle.qvt_value.specs.declared.value.Value.{Value}
-use Rattle.qvt_metas.specs.Metamodels.{is_single}
+use Rattle.qvt_metamodel.specs.Metamodels.{is_single}
 use Rattle.qvt_relation.proofs.Bools.{and_left, and_right, and_both, or_cases, or_left, or_right, none_left, none_right, not_true, not_of_false, either, or_false, clash, refuted}
 use Rattle.qvt_slots.specs.Slots.{has}
 use Rattle.qvt_slots.specs.Change.{Change, object_value, among_objects, is_here, is_added, is_removed, gains, is_taken, is_replaced, is_moved_in, is_moved, leaves, loses, keeps, with_object, slot_elsewhere, slot_after}

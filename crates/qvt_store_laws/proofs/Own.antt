@@ -5,7 +5,7 @@ use Rattle.std.specs.List.{list_any}
 use Rattle.std.proofs.lemmas.Bool.Decides.{Decides-eqb}
 use Rattle.qvt_base.specs.declared.numbers.FeatureNo.{FeatureNo}
 use Rattle.qvt_value.specs.declared.value.Value.{Value}
-use Rattle.qvt_metas.specs.Metamodels.{Metamodels, opposite, is_feature_number, is_opposite, is_containment}
+use Rattle.qvt_metamodel.specs.Metamodels.{Metamodels, opposite, is_feature_number, is_opposite, is_containment}
 use Rattle.qvt_relation.proofs.Bools.{and_left, and_right, and_both, or_left, or_right, or_none, or_cases, or_false, not_true, not_of_false, either, clash}
 use Rattle.qvt_slots.specs.Slots.{object_in, passes, is_object, has}
 use Rattle.qvt_slots.specs.Change.{Change, is_some_feature, is_linked, slot_after}

@@ -3,9 +3,9 @@ use Rattle.std.proofs.Common.{◌≡◌, ℕ, ◌≤◌, Bool, true, false, not,
 use Rattle.std.specs.Prelude.{None, Ok}
 use Rattle.std.proofs.lemmas.Bool.{ltb-true, ltb-false}
 use Rattle.qvt_value.specs.declared.value.Value.{Value}
-use Rattle.qvt_metas.specs.Metamodels.{features_of, class_at, is_containment, is_opposite}
-use Rattle.qvt_metas.specs.Named.{metamodel_at}
-use Rattle.qvt_metas.specs.WellFormed.{IsWellFormed}
+use Rattle.qvt_metamodel.specs.Metamodels.{features_of, class_at, is_containment, is_opposite}
+use Rattle.qvt_metamodel.specs.Named.{metamodel_at}
+use Rattle.qvt_metamodel.specs.WellFormed.{IsWellFormed}
 use Rattle.qvt_metamodel.proofs.Regular.{regular_of}
 use Rattle.qvt_relation.proofs.Bools.{and_left, and_right, either, clash}
 use Rattle.qvt_slots.specs.declared.op.SetOp.TheVariants.{Put, Add}

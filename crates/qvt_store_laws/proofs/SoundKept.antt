@@ -8,9 +8,9 @@ use Rattle.std.proofs.lemmas.List.Elements.{All-filter, All-head, All-tail, All-
 use Rattle.qvt_base.specs.declared.numbers.FeatureNo.{FeatureNo}
 use Rattle.qvt_base.specs.declared.numbers.Oid.{Oid}
 use Rattle.qvt_value.specs.declared.value.Value.{Value}
-use Rattle.qvt_metas.specs.Metamodels.{Metamodels, opposite, is_opposite, is_feature_number, is_single, shape_of, class_at}
-use Rattle.qvt_metas.specs.Named.{metamodel_at}
-use Rattle.qvt_metas.specs.WellFormed.{IsWellFormed}
+use Rattle.qvt_metamodel.specs.Metamodels.{Metamodels, opposite, is_opposite, is_feature_number, is_single, shape_of, class_at}
+use Rattle.qvt_metamodel.specs.Named.{metamodel_at}
+use Rattle.qvt_metamodel.specs.WellFormed.{IsWellFormed}
 use Rattle.qvt_relation.proofs.Bools.{and_left, and_right, and_both, or_cases, none_left, none_right, either, clash}
 use Rattle.qvt_slots.specs.declared.fault.StoreFault.{StoreFault}
 use Rattle.qvt_slots.specs.declared.fault.StoreFault.TheVariants.{TooMany, ContainmentCycle, ReadOnly, CrossModel}

@@ -5,7 +5,7 @@ use Rattle.std.proofs.lemmas.Bool.{cases_eq, lt-ltb, ltb-true}
 use Rattle.std.proofs.lemmas.List.{get_or-set_same, get_or-set_other, length-set}
 use Rattle.qvt_base.specs.declared.numbers.Oid.{Oid}
 use Rattle.qvt_value.specs.declared.value.Value.{Value}
-use Rattle.qvt_metas.specs.Metamodels.{features_of, has_feature}
+use Rattle.qvt_metamodel.specs.Metamodels.{features_of, has_feature}
 use Rattle.qvt_slots.specs.declared.op.SetOp.TheVariants.{Put, Add}
 use Rattle.qvt_slots.specs.Contents.{Contents, Instance, no_instance, object_at, class_of, extent_of, is_live, members_from, members_of, set_slot, slot_of, with_slot}
 use Rattle.qvt_slots.specs.Change.{Change}

@@ -5,8 +5,8 @@ use Rattle.std.proofs.lemmas.List.{same_lists, get_or-map, get_or_default}
 use Rattle.std.proofs.lemmas.Bool.Decides.{Decides-eqb}
 use Rattle.qvt_base.specs.declared.numbers.FeatureNo.{FeatureNo}
 use Rattle.qvt_value.specs.declared.value.Value.{Value}
-use Rattle.qvt_metas.specs.Metamodels.{Metamodels, features_of, among_features}
-use Rattle.qvt_metas.specs.WellFormed.{IsWellFormed}
+use Rattle.qvt_metamodel.specs.Metamodels.{Metamodels, features_of, among_features}
+use Rattle.qvt_metamodel.specs.WellFormed.{IsWellFormed}
 use Rattle.qvt_relation.proofs.Bools.{or_left, or_right}
 use Rattle.qvt_slots.specs.Contents.{list_of}
 use Rattle.qvt_slots.specs.Cells.{IsPlaceOf}

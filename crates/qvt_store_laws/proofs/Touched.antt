@@ -5,8 +5,8 @@ use Rattle.std.specs.List.{list_any}
 use Rattle.std.proofs.lemmas.Bool.Decides.{Decides-eqb}
 use Rattle.qvt_base.specs.declared.numbers.FeatureNo.{FeatureNo}
 use Rattle.qvt_value.specs.declared.value.Value.{Value}
-use Rattle.qvt_metas.specs.Metamodels.{opposite, is_opposite, is_feature_number, is_containment}
-use Rattle.qvt_metas.specs.WellFormed.{IsWellFormed}
+use Rattle.qvt_metamodel.specs.Metamodels.{opposite, is_opposite, is_feature_number, is_containment}
+use Rattle.qvt_metamodel.specs.WellFormed.{IsWellFormed}
 use Rattle.qvt_relation.proofs.Bools.{and_left, and_right, and_false, and_false_left, or_left, or_right, or_cases, or_none, none_left, none_right, none_of, refuted, clash}
 use Rattle.qvt_slots.specs.Slots.{object_in, passes, is_object, has}
 use Rattle.qvt_slots.specs.Change.{Change, is_some_object, among_objects, is_here, is_added, is_removed, names_containment, is_container, gains, is_taken, is_replaced, is_moved_in, is_moved, leaves, is_left, loses, keeps, with_end, slot_elsewhere}

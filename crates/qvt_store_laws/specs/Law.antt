@@ -2,8 +2,8 @@
 use Rattle.std.specs.Prelude.{◌≡◌, ℕ, ◌≤◌, List, length, IsTrue}
 use Rattle.std.specs.List.{list_all}
 use Rattle.qvt_value.specs.declared.value.Value.{Value}
-use Rattle.qvt_metas.specs.Metamodels.{is_single}
-use Rattle.qvt_metas.specs.WellFormed.{IsWellFormed}
+use Rattle.qvt_metamodel.specs.Metamodels.{is_single}
+use Rattle.qvt_metamodel.specs.WellFormed.{IsWellFormed}
 use Rattle.qvt_slots.specs.Slots.{OppositesAgree, OneContainer}
 use Rattle.qvt_slots.specs.Change.{Change, objects_beyond, slot_after}
 use Rattle.qvt_slots.specs.Contents.{Contents, is_slot}

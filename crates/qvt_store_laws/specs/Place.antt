@@ -1,7 +1,7 @@
 -- What is asked where a slot is loaded.
 use Rattle.std.specs.Prelude.{◌≡◌, ℕ, Bool, ◌&&◌, List, [], IsTrue, IsFalse}
 use Rattle.qvt_value.specs.declared.value.Value.{Value}
-use Rattle.qvt_metas.specs.Metamodels.{Metamodels, shape_of, is_containment}
+use Rattle.qvt_metamodel.specs.Metamodels.{Metamodels, shape_of, is_containment}
 use Rattle.qvt_slots.specs.Slots.{has, Inside}
 use Rattle.qvt_slots.specs.Contents.{Contents, slot_of}
 use Rattle.qvt_slots.specs.Types.{IsAssignable}

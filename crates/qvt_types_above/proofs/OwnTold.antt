@@ -8,7 +8,7 @@ use Rattle.qvt_types_groups.specs.declared.signature.HeadClass.{HeadClass}
 use Rattle.qvt_types_groups.specs.declared.signature.HeadClass.TheVariants.{Missing, Unknown, Known}
 use Rattle.qvt_types_groups.specs.declared.signature.Signature.{Signature}
 use Rattle.qvt_types_groups.specs.ByClass.{is_top}
-use Rattle.qvt_types_units.specs.Choice.{context_at}
+use Rattle.qvt_types_groups.specs.Choice.{context_at}
 use Rattle.qvt_types_groups.specs.Numbers.{is_context}
 use Rattle.qvt_types_groups.proofs.Lowest.{Transitive}
 use Rattle.qvt_types_above.specs.declared.above.Above.{Above}

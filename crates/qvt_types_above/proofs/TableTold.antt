@@ -13,7 +13,7 @@ use Rattle.qvt_types_groups.specs.declared.signature.HeadClass.{HeadClass}
 use Rattle.qvt_types_groups.specs.declared.signature.HeadClass.TheVariants.{Missing, Unknown, Known}
 use Rattle.qvt_types_groups.specs.declared.signature.Signature.{Signature}
 use Rattle.qvt_types_groups.specs.ByClass.{is_top}
-use Rattle.qvt_types_units.specs.Choice.{context_at}
+use Rattle.qvt_types_groups.specs.Choice.{context_at}
 use Rattle.qvt_types_groups.specs.Numbers.{is_context}
 use Rattle.qvt_types_groups.specs.Overrides.{is_strictly_below}
 use Rattle.qvt_types_groups.proofs.ByClass.{AreLeast}

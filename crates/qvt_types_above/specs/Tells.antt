@@ -6,7 +6,7 @@ use Rattle.qvt_types_groups.specs.declared.signature.HeadClass.{HeadClass}
 use Rattle.qvt_types_groups.specs.declared.signature.HeadClass.TheVariants.{Known}
 use Rattle.qvt_types_groups.specs.declared.signature.Signature.{Signature}
 use Rattle.qvt_types_groups.specs.ByClass.{is_top}
-use Rattle.qvt_types_units.specs.Choice.{context_at}
+use Rattle.qvt_types_groups.specs.Choice.{context_at}
 use Rattle.qvt_types_groups.specs.Numbers.{unit_at, is_context}
 use Rattle.qvt_types_groups.specs.Overrides.{is_misfit, is_strictly_below}
 use Rattle.qvt_types_above.specs.declared.above.Above.{Above}

@@ -13,7 +13,7 @@ use Rattle.qvt_metas.specs.Descends.{is_superclass}
 use Rattle.qvt_metamodel.proofs.Bools.{clash}
 use Rattle.qvt_metamodel.proofs.Halves.{Half, old, new, half}
 use Rattle.qvt_metamodel.proofs.Infos.{map-at_all}
-use Rattle.qvt_metamodel.proofs.Lists.{list_any-map}
+use Rattle.qvt_metamodel.proofs.ListFacts.{list_any-map}
 use Rattle.qvt_metamodel.proofs.Owners.{all-there}
 use Rattle.qvt_metas.specs.Tables.{of_classes}
 use Rattle.qvt_metas.specs.Search.{AreLive, IsAcyclic}

@@ -14,7 +14,7 @@ use Rattle.qvt_metamodel.specs.Names.{is_among, repeated}
 use Rattle.qvt_metamodel.proofs.Bools.{or_cases, or_left, or_right, not_true, clash}
 use Rattle.qvt_metamodel.proofs.FeatureNames.{Placed, placed}
 use Rattle.qvt_metamodel.proofs.Infos.{map-at}
-use Rattle.qvt_metamodel.proofs.Lists.{all-imply}
+use Rattle.qvt_metamodel.proofs.ListFacts.{all-imply}
 use Rattle.qvt_metamodel.proofs.Lookups.{among-append, differ-before, none_repeated}
 use Rattle.qvt_metamodel.proofs.Owners.{among-append as features-append}
 use Rattle.qvt_types_classes.specs.declared.declared.Property.{Property}

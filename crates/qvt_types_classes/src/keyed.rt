@@ -2,14 +2,14 @@
 
 ghost use Rattle.std.specs.Prelude.{◌≡◌, map, IfOk};
 ghost use Rattle.qvt_metas.specs.Added.{place_in};
-ghost use Rattle.qvt_meta_lists.specs.Lists.{all_lists};
+ghost use Rattle.qvt_metamodel.specs.Lists.{all_lists};
 ghost use Rattle.qvt_meta_repeats.specs.Flags.{name_flags};
 ghost use Rattle.qvt_types_classes.specs.Keys as names;
 
 use crate::declared::Property;
 use qvt_base::list_fault::ListFault;
 use qvt_base::seq::Seq;
-use qvt_meta_lists::lists::FeatureLists;
+use qvt_metamodel::lists::FeatureLists;
 use qvt_meta_repeats::repeats::Repeats;
 use qvt_types_paths::name_index::NameIndex;
 use std::alloc::Global;

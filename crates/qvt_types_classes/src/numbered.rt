@@ -1,7 +1,7 @@
 //! Intermediate classes by number, and the properties of each with those that it inherits.
 
 ghost use Rattle.std.specs.Prelude.{◌≡◌, ◌+◌, ◌<◌, ◌^◌, [], length, map, slice_index_or, IfOk, IfSome, OnOk};
-ghost use Rattle.qvt_meta_lists.specs.Lists.{all_lists};
+ghost use Rattle.qvt_metamodel.specs.Lists.{all_lists};
 ghost use Rattle.qvt_metas.specs.Search.{AreLive, IsAcyclic};
 ghost use Rattle.qvt_types_classes.specs.Classes.{HaveRanks};
 ghost use Rattle.qvt_types_classes.specs.Inherited as inherited;
@@ -14,7 +14,7 @@ use qvt_base::numbers::{ClassNo, FeatureNo, Place};
 use qvt_base::seq::Seq;
 use qvt_base::text::Text;
 use qvt_cycle::lists::Positions;
-use qvt_meta_lists::lists::FeatureLists;
+use qvt_metamodel::lists::FeatureLists;
 use qvt_metas::info::ClassInfo;
 use qvt_metas::numbering::numbers_from;
 use qvt_metas::tables::tables_of;

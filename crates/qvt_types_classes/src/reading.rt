@@ -3,7 +3,7 @@
 ghost use Rattle.std.specs.Prelude.{◌≡◌, ◌<◌, ◌+◌, ◌++◌, ◌∷◌, ℕ, List, [], drop, length, map, take, is_some, position, slice_index_or, if◌then◌else◌, IfOk, OnOk};
 ghost use Rattle.std.specs.Str.{bytes_eq};
 ghost use Rattle.qvt_metamodel.specs.Names.{repeated};
-ghost use Rattle.qvt_meta_lists.specs.Lists.{all_lists};
+ghost use Rattle.qvt_metamodel.specs.Lists.{all_lists};
 ghost use Rattle.qvt_meta_repeats.specs.Flags.{name_flags, repeat_flags};
 ghost use Rattle.qvt_types_classes.specs.declared.declared.Declared.{Declared};
 ghost use Rattle.qvt_types_classes.specs.Inherited as inherited;
@@ -16,7 +16,7 @@ use qvt_base::copied::Copied;
 use qvt_base::list_fault::ListFault;
 use qvt_base::numbers::FeatureNo;
 use qvt_base::seq::Seq;
-use qvt_meta_lists::lists::FeatureLists;
+use qvt_metamodel::lists::FeatureLists;
 use qvt_types_data::refusal::RefusalKind;
 use qvt_types_paths::name_index::NameIndex;
 use qvt_types_paths::told::{RefusalList, tell_if};

@@ -1,7 +1,7 @@
 -- What calls by a name find for objects of each class, told once for each name.
 use Rattle.std.specs.Prelude.{ℕ, Bool, not, nat_lt, IsTrue, List, length, Option, Some, None, slice_index_or}
 use Rattle.std.specs.List.{list_any}
-use Rattle.qvt_metas.specs.Metamodels.{Metamodels}
+use Rattle.qvt_metamodel.specs.Metamodels.{Metamodels}
 use Rattle.qvt_types_units.specs.declared.signature.Signature.{Signature}
 use Rattle.qvt_types_units.specs.Numbers.{unit_at, group, is_mapping}
 use Rattle.qvt_types_choices.specs.Sets.{AreSets}

@@ -1,4 +1,5 @@
 pub use Rattle.qvt_types_units.specs.Units
+pub use Rattle.qvt_types_units.specs.Choice
 pub use Rattle.qvt_types_units.specs.Signatures
 pub use Rattle.qvt_types_units.specs.Reuse
 pub use Rattle.qvt_types_units.specs.Overrides

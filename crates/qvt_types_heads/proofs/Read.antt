@@ -1,6 +1,6 @@
 -- The heads as they are read, one part after the other.
 use Rattle.std.proofs.Common.{◌≡◌, ◌∙◌, ℕ, Bool, List, [], ◌++◌, length, refl, sym, ap, append_assoc}
-use Rattle.qvt_metas.specs.Metamodels.{Metamodels}
+use Rattle.qvt_metamodel.specs.Metamodels.{Metamodels}
 use Rattle.qvt_tree_types.specs.Module.{ModuleTerm, UnitTerm}
 use Rattle.qvt_tree_types.specs.declared.module.ModelType.{ModelType}
 use Rattle.qvt_types_lists.specs.Classes.{above_told, extended_by, own_classes, read_classes, typed_flags}

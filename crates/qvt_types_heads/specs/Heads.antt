@@ -1,7 +1,7 @@
 -- What the code holds of the heads of a transformation, as the definitions say it; and what is told of them, in two parts.
 use Rattle.std.specs.Prelude.{List, [], ◌++◌}
 use Rattle.std.specs.List.{flat_map}
-use Rattle.qvt_metas.specs.Metamodels.{Metamodels}
+use Rattle.qvt_metamodel.specs.Metamodels.{Metamodels}
 use Rattle.qvt_tree_types.specs.Module.{ModuleTerm}
 use Rattle.qvt_types_lists.specs.Classes.{above_told}
 use Rattle.qvt_types_lists.specs.Written.{all_declared, classes_told}

@@ -2,8 +2,8 @@
 -- of the nearest implicit source that has it.
 use Rattle.std.specs.Prelude.{ℕ, Bool, true, false, List, [], ◌∷◌, Option, Some, None, if◌then◌else◌}
 use Rattle.qvt_base.specs.declared.numbers.FeatureNo.{FeatureNo}
-use Rattle.qvt_metas.specs.Metamodels.{Metamodels, shape_of}
-use Rattle.qvt_metas.specs.Named.{feature_named}
+use Rattle.qvt_metamodel.specs.Metamodels.{Metamodels, shape_of}
+use Rattle.qvt_metamodel.specs.Named.{feature_named}
 use Rattle.qvt_types_data.specs.declared.ty.Ty.{Ty, out-Ty}
 use Rattle.qvt_types_data.specs.declared.ty.Ty.TheOpen.{Ty-F}
 use Rattle.qvt_types_data.specs.Notes.{plain}

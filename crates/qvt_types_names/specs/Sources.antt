@@ -1,6 +1,6 @@
 -- What one implicit source makes of a name, if it decides it (OCL 2.4, 7.6.1).
 use Rattle.std.specs.Prelude.{ℕ, Bool, List, Option, Some, None, option_map, if◌then◌else◌}
-use Rattle.qvt_metas.specs.Metamodels.{Metamodels}
+use Rattle.qvt_metamodel.specs.Metamodels.{Metamodels}
 use Rattle.qvt_types_data.specs.declared.ruling.Ruling.{Ruling}
 use Rattle.qvt_types_data.specs.declared.ruling.Ruling.TheVariants.{Silent}
 use Rattle.qvt_types_data.specs.declared.ty.Ty.{Ty, out-Ty}

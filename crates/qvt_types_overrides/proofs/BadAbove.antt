@@ -9,7 +9,7 @@ use Rattle.qvt_metamodel.proofs.Bools.{and_left, and_right, or_left, or_right, o
 use Rattle.qvt_types_groups.specs.declared.signature.HeadClass.{HeadClass}
 use Rattle.qvt_types_groups.specs.declared.signature.HeadClass.TheVariants.{Missing, Unknown, Known}
 use Rattle.qvt_types_groups.specs.declared.signature.Signature.{Signature}
-use Rattle.qvt_types_units.specs.Choice.{context_at}
+use Rattle.qvt_types_groups.specs.Choice.{context_at}
 use Rattle.qvt_types_groups.specs.Numbers.{no_unit, unit_at, is_called}
 use Rattle.qvt_types_groups.specs.Overrides.{are_alike, overrides, is_misfit, is_strictly_below, is_bad_override}
 use Rattle.qvt_types_groups.specs.Lists.{list_at, numbers_under}

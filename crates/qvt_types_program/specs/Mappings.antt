@@ -1,6 +1,6 @@
 -- The mappings of a transformation by their numbers, and their names in traces (QVT 1.3, 8.2.1.15).
 use Rattle.std.specs.Prelude.{ℕ, ◌+◌, ◌==◌, ◌&&◌, Bool, true, false, IsTrue, List, [], ◌∷◌, map, count_by, position, Option, Some, None}
-use Rattle.qvt_metas.specs.Metamodels.{Metamodels}
+use Rattle.qvt_metamodel.specs.Metamodels.{Metamodels}
 use Rattle.qvt_types_groups.specs.declared.signature.Signature.{Signature}
 use Rattle.qvt_types_groups.specs.declared.signature.UnitSort.{UnitSort}
 use Rattle.qvt_types_groups.specs.declared.signature.UnitSort.TheVariants as sort

@@ -1,6 +1,6 @@
 -- A program as the definitions say it, and what is asked of it.
 use Rattle.std.specs.Prelude.{ℕ, ◌-◌, List, length, take, slice_get, slice_index_or, Option, None}
-use Rattle.qvt_metas.specs.Metamodels.{Metamodels}
+use Rattle.qvt_metamodel.specs.Metamodels.{Metamodels}
 use Rattle.qvt_tree_types.specs.declared.module.ModelParam.{ModelParam}
 use Rattle.qvt_types_nodes.specs.Module.{TypedModuleTerm, TypedUnitTerm, typed_module_view}
 use Rattle.qvt_types_nodes.specs.StripModule.{strip}

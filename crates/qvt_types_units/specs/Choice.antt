@@ -2,8 +2,8 @@
 -- name the one whose context class is the object's or above it, and is or is below that of each other such unit.
 use Rattle.std.specs.Prelude.{ℕ, ◌&&◌, ◌||◌, not, Bool, true, false, List, [], ◌∷◌, length, filter, Option, Some, None, is_some, if◌then◌else◌}
 use Rattle.std.specs.List.{list_any, list_all, range_with_len}
-use Rattle.qvt_metas.specs.Metamodels.{Metamodels, class_at}
-use Rattle.qvt_metas.specs.Descends.{descends}
+use Rattle.qvt_metamodel.specs.Metamodels.{Metamodels, class_at}
+use Rattle.qvt_metamodel.specs.Descends.{descends}
 use Rattle.qvt_types_units.specs.declared.signature.HeadClass.{HeadClass}
 use Rattle.qvt_types_units.specs.declared.signature.HeadClass.TheVariants.{Missing, Unknown, Known}
 use Rattle.qvt_types_units.specs.declared.signature.Signature.{Signature}

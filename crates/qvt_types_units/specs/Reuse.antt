@@ -5,8 +5,8 @@ use Rattle.std.specs.List.{flat_map}
 use Rattle.qvt_base.specs.declared.numbers.ClassNo.{ClassNo}
 use Rattle.qvt_base.specs.declared.numbers.Place.{Place}
 use Rattle.qvt_types_classes.specs.Successors.{is_on_cycle}
-use Rattle.qvt_metas.specs.Metamodels.{Metamodels}
-use Rattle.qvt_metas.specs.Descends.{descends}
+use Rattle.qvt_metamodel.specs.Metamodels.{Metamodels}
+use Rattle.qvt_metamodel.specs.Descends.{descends}
 use Rattle.qvt_tree_types.specs.Tree.{StmtTerms, NoStmts, MoreStmts}
 use Rattle.qvt_tree_types.specs.Module.{MappingTerm, UnitTerm, ClassOf, MainOf, HelperOf, ConstructorOf, MappingOf}
 use Rattle.qvt_tree_types.specs.declared.types.PathTree.{PathTree}

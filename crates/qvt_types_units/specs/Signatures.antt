@@ -1,7 +1,7 @@
 -- The signatures of units (QVT 1.3, 8.2.1.10 ImperativeOperation, 8.2.1.13 Helper, 8.2.1.14 Constructor, 8.2.1.15 MappingOperation).
 use Rattle.std.specs.Prelude.{ℕ, ◌+◌, ◌-◌, ◌==◌, List, [], ◌∷◌, length, map, take, slice_index_or, Option, Some, None, Result, Ok, Err, if◌then◌else◌}
 use Rattle.qvt_base.specs.declared.numbers.ClassNo.{ClassNo}
-use Rattle.qvt_metas.specs.Metamodels.{Metamodels}
+use Rattle.qvt_metamodel.specs.Metamodels.{Metamodels}
 use Rattle.qvt_tree_types.specs.Tree.{TypeTerm}
 use Rattle.qvt_tree_types.specs.Module.{TypedName, ClassTerm, HelperTerm, MappingTerm, UnitTerm, ClassOf, MainOf, HelperOf, ConstructorOf, MappingOf}
 use Rattle.qvt_tree_types.specs.declared.module.ResultDecl.{ResultDecl}

@@ -1,8 +1,8 @@
 -- What an assignment writes, and what that takes (QVT 1.3, 8.2.2.11 AssignExp).
 use Rattle.std.specs.Prelude.{ℕ, Bool, true, false, if◌then◌else◌, List, Option, Some, None}
 use Rattle.qvt_base.specs.declared.numbers.FeatureNo.{FeatureNo}
-use Rattle.qvt_metas.specs.Metamodels.{shape_of, is_single}
-use Rattle.qvt_metas.specs.Named.{feature_named}
+use Rattle.qvt_metamodel.specs.Metamodels.{shape_of, is_single}
+use Rattle.qvt_metamodel.specs.Named.{feature_named}
 use Rattle.qvt_types_units.specs.Classes.{is_typed}
 use Rattle.qvt_types_data.specs.Notes.{plain, unread}
 use Rattle.qvt_types_data.specs.declared.note.Reading.TheVariants as reading

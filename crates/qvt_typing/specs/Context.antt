@@ -1,6 +1,6 @@
 -- What is known where a node stands (QVT 1.3, 8.2.1 and 8.2.2).
 use Rattle.std.specs.Prelude.{ℕ, Bool, true, if◌then◌else◌, List, Option}
-use Rattle.qvt_metas.specs.Metamodels.{Metamodels}
+use Rattle.qvt_metamodel.specs.Metamodels.{Metamodels}
 use Rattle.qvt_types_units.specs.Classes.{is_typed}
 use Rattle.qvt_types_data.specs.declared.note.Reading.{Reading}
 use Rattle.qvt_types_data.specs.declared.note.Reading.TheVariants as reading

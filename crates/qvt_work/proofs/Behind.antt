@@ -2,7 +2,7 @@
 use Rattle.std.proofs.Common.{◌≡◌, ◌∙◌, ap, sym, subst, ℕ, nat_lt, if◌then◌else◌, List, Some, Result, Ok, Err}
 use Rattle.std.specs.Prelude.{IfOk, IsOk}
 use Rattle.qvt_base.specs.Outside.{Held}
-use Rattle.qvt_metas.specs.Metamodels.{Metamodels}
+use Rattle.qvt_metamodel.specs.Metamodels.{Metamodels}
 use Rattle.qvt_inputs.specs.declared.loaded.Loaded.{Loaded}
 use Rattle.qvt_job.specs.declared.job.Job.{Job}
 use Rattle.qvt_meaning.specs.Accepts.{ProgramTerm}

@@ -1,7 +1,7 @@
 -- What `check METAMODEL MODEL` does over the bytes that the files hold: the metamodel, then the model, which is one of the metamodel
 -- and conforms to it.
 use Rattle.std.specs.Prelude.{ℕ, List, [], length, Result, Ok}
-use Rattle.qvt_metas.specs.Metamodels.{Metamodels}
+use Rattle.qvt_metamodel.specs.Metamodels.{Metamodels}
 use Rattle.qvt_model.specs.declared.data.ObjectData.{ObjectData}
 use Rattle.qvt_inputs.specs.Conforming.{model_read}
 use Rattle.qvt_outcome.specs.Outcome.{Outcome, done, conforms_line}

@@ -2,7 +2,7 @@
 -- that the files hold.
 use Rattle.std.specs.Prelude.{ℕ, List, IfOk, ⊤}
 use Rattle.qvt_base.specs.Outside.{Held}
-use Rattle.qvt_metas.specs.Metamodels.{Metamodels}
+use Rattle.qvt_metamodel.specs.Metamodels.{Metamodels}
 use Rattle.qvt_store.specs.Contents.{Contents}
 use Rattle.qvt_job.specs.declared.job.Job.{Job}
 use Rattle.qvt_meaning.specs.Accepts.{ProgramTerm}

@@ -1,9 +1,9 @@
 -- The metamodels of files, in order: each has a name that none before it has.
 use Rattle.std.specs.Prelude.{ℕ, List, [], None, Result, Ok, Err, if◌then◌else◌}
 use Rattle.qvt_results.specs.Bind.{◌>>=◌}
-use Rattle.qvt_metas.specs.Metamodels.{Metamodels}
-use Rattle.qvt_metas.specs.Added.{added}
-use Rattle.qvt_metas.specs.Named.{has_metamodel}
+use Rattle.qvt_metamodel.specs.Metamodels.{Metamodels}
+use Rattle.qvt_metamodel.specs.Added.{added}
+use Rattle.qvt_metamodel.specs.Named.{has_metamodel}
 use Rattle.qvt_metamodel.specs.declared.declared.MetaData.{MetaData}
 use Rattle.qvt_metamodel.specs.declared.fault.MetasFault.{MetasFault}
 use Rattle.qvt_metamodel.specs.declared.fault.MetasFault.TheVariants.{SameMetamodel}

@@ -3,7 +3,7 @@
 use Rattle.std.specs.Prelude.{ℕ, List, Option, option_map, Result, Ok, ⊤}
 use Rattle.qvt_results.specs.Bind.{◌>>=◌}
 use Rattle.qvt_json.specs.Steps.{none_of}
-use Rattle.qvt_metas.specs.Metamodels.{Metamodels}
+use Rattle.qvt_metamodel.specs.Metamodels.{Metamodels}
 use Rattle.qvt_tree_types.specs.Module.{ModuleTerm}
 use Rattle.qvt_typing.specs.Accepts.{ProgramTerm}
 use Rattle.qvt_job.specs.Job.{job_of}

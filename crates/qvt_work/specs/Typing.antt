@@ -1,6 +1,6 @@
 -- The types of a text: its program over the metamodels of the job, or the refusal of what typing refuses of it.
 use Rattle.std.specs.Prelude.{ℕ, List, Result}
-use Rattle.qvt_metas.specs.Metamodels.{Metamodels}
+use Rattle.qvt_metamodel.specs.Metamodels.{Metamodels}
 use Rattle.qvt_tree_types.specs.Module.{ModuleTerm}
 use Rattle.qvt_typing.specs.Accepts.{ProgramTerm, accepts}
 use Rattle.qvt_outcome.specs.Outcome.{Outcome}

@@ -12,7 +12,7 @@ use Rattle.qvt_relation.proofs.Bools.{either, clash, refuted}
 use Rattle.qvt_relation.proofs.Closures.{reaches-closure}
 use Rattle.qvt_cycle.specs.Successors.{among, leads, is_on_cycle, how_often, how_often_in}
 use Rattle.qvt_cycle.proofs.Visits.{among-joined}
-use Rattle.qvt_metas.specs.Metamodels.{Metamodels, feature_at, is_containment}
+use Rattle.qvt_metamodel.specs.Metamodels.{Metamodels, feature_at, is_containment}
 use Rattle.qvt_store.specs.Slots.{Slots, has, OneContainer, Contains, Inside, directly, through}
 use Rattle.qvt_store.specs.Repeats.{repeats}
 use Rattle.qvt_slots.proofs.Lists.{past_end}

@@ -3,7 +3,7 @@ use Rattle.std.proofs.Common.{◌≡◌, ℕ, ◌≤◌, Bool, true, false, ◌=
 use Rattle.std.specs.List.{list_any, filter, filter_map, AllByRecursion}
 use Rattle.std.proofs.lemmas.Bool.Decides.{Decides-eqb}
 use Rattle.qvt_base.specs.declared.numbers.FeatureNo.{FeatureNo}
-use Rattle.qvt_metas.specs.Metamodels.{features_of, among_features, has_feature}
+use Rattle.qvt_metamodel.specs.Metamodels.{features_of, among_features, has_feature}
 use Rattle.qvt_relation.proofs.Bools.{or_cases, or_left, or_right, none_left, none_right, either, clash, refuted}
 use Rattle.qvt_store.specs.Contents.{Contents, class_of, slot_of}
 use Rattle.qvt_model.specs.declared.data.SlotData.{SlotData}

@@ -10,7 +10,7 @@ use Rattle.qvt_value.specs.declared.value.Value.TheVariants.{Bool as BoolValue, 
 use Rattle.qvt_json.specs.Steps.{or_next}
 use Rattle.qvt_metamodel.specs.declared.info.TypeKind.{TypeKind}
 use Rattle.qvt_metamodel.specs.declared.info.TypeKind.TheVariants.{Bool as BoolKind, Int as IntKind, Str as StrKind, Enum as EnumKind, Class as ClassKind}
-use Rattle.qvt_metas.specs.Metamodels.{Metamodels, class_at, feature_at, features_of, among_features, has_feature, shape_of, opposite, is_opposite, is_feature_number, is_containment}
+use Rattle.qvt_metamodel.specs.Metamodels.{Metamodels, class_at, feature_at, features_of, among_features, has_feature, shape_of, opposite, is_opposite, is_feature_number, is_containment}
 use Rattle.qvt_metamodel.proofs.Regular.{regular_of}
 use Rattle.qvt_relation.proofs.Bools.{and_left, and_right, and_both, and_false, or_cases, or_left, or_right, or_none, not_of_true, either, clash}
 use Rattle.qvt_store.specs.Slots.{is_object, has}

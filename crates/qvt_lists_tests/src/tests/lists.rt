@@ -1,7 +1,7 @@
 //! Lists of features that go on from one another.
 
 ghost use Rattle.std.specs.Prelude.{IfOk};
-ghost use Rattle.qvt_meta_lists.specs.Lists.{AreMapped};
+ghost use Rattle.qvt_metamodel.specs.Lists.{AreMapped};
 
 use qvt_base::copied::Copied;
 use qvt_base::list_fault::ListFault;
@@ -9,7 +9,7 @@ use qvt_base::lists::FeatureNoList;
 use qvt_base::numbers::FeatureNo;
 use qvt_base::seq::Seq;
 use qvt_base::text::Text;
-use qvt_meta_lists::lists::FeatureLists;
+use qvt_metamodel::lists::FeatureLists;
 use qvt_metamodel::copied::copies;
 use std::alloc::Global;
 use std::test::Fail;

@@ -3,7 +3,7 @@
 ghost use Rattle.std.specs.Prelude.{◌≡◌, ◌≢◌, ◌++◌, ◌&&◌, ◌||◌, not, All, Ok, Err, IfOk, IfErr, OnOk, OnErr};
 ghost use Rattle.qvt_slots.specs.Change.{is_linked, objects_beyond};
 ghost use Rattle.qvt_slots.specs.Contents.{slot_of, with_slot};
-ghost use Rattle.qvt_metas.specs.Metamodels.{shape_of};
+ghost use Rattle.qvt_metamodel.specs.Metamodels.{shape_of};
 ghost use Rattle.qvt_slots.specs.Assign.{assign, change_to, store_after};
 ghost use Rattle.qvt_slots.specs.Types.{IsAssignable, IsAttributeChange, HasCodeType};
 ghost use Rattle.qvt_slots.specs.Repeats.{new_list};

@@ -2,7 +2,7 @@
 
 ghost use Rattle.std.specs.Prelude.{◌≡◌, ◌↔◌, ◌++◌, ◌∷◌, [], IsTrue, IfOk, IfErr, OnOk};
 ghost use Rattle.std.specs.List.{list_any};
-ghost use Rattle.qvt_metas.specs.Metamodels.{opposite};
+ghost use Rattle.qvt_metamodel.specs.Metamodels.{opposite};
 ghost use Rattle.qvt_slots.specs.Change.{among_objects};
 ghost use Rattle.qvt_slots.specs.Contents.{HoldOwn, slot_of, is_live, extent_of, is_model, is_writable};
 ghost use Rattle.qvt_slots.specs.Assign.{is_elsewhere, crosses};

@@ -1,7 +1,7 @@
 //! Lists put last in slots: one change, with one refusal.
 
 ghost use Rattle.std.specs.Prelude.{◌≡◌, ◌≢◌, ◌++◌, filter, All, Ok, Err, IsTrue, IsFalse, IfOk, IfErr, OnOk, OnErr};
-ghost use Rattle.qvt_metas.specs.Metamodels.{shape_of};
+ghost use Rattle.qvt_metamodel.specs.Metamodels.{shape_of};
 ghost use Rattle.qvt_slots.specs.declared.op.SetOp.{SetOp};
 ghost use Rattle.qvt_slots.specs.Contents.{slot_of};
 ghost use Rattle.qvt_slots.specs.Repeats.{new_list, AreUnique};

@@ -1,7 +1,7 @@
 //! Slots loaded.
 
 ghost use Rattle.std.specs.Prelude.{◌≡◌, All, IfOk, IfErr, OnOk, OnErr, IsFalse};
-ghost use Rattle.qvt_metas.specs.Metamodels.{opposite};
+ghost use Rattle.qvt_metamodel.specs.Metamodels.{opposite};
 ghost use Rattle.qvt_slots.specs.Slots.{OppositesAgree};
 ghost use Rattle.qvt_slots.specs.Change.{is_some_feature};
 ghost use Rattle.qvt_slots.specs.Contents.{slot_of, with_slot};

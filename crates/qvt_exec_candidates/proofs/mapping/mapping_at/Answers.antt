@@ -1,6 +1,6 @@
 use Rattle.std.proofs.Common.{◌≡◌, Some}
 use Rattle.qvt_meaning.specs.Program.{mapping_unit}
-use Rattle.qvt_exec_calls.specs.Program.{program_view}
+use Rattle.qvt_exec_phrases.specs.Program.{program_view}
 use Rattle.qvt_exec_candidates.specs.Stage.{setting_in}
 use Rattle.qvt_exec_candidates.proofs.Found.{found}
 use Rattle.qvt_exec_candidates.proofs.mapping.mapping_at.Goals as goal

@@ -1,6 +1,6 @@
 use Rattle.std.proofs.Common.{◌∙◌, [], ap, arith, length, refl, slice_index_or, subst}
 use Rattle.qvt_metamodel.proofs.Infos.{map-at_all}
-use Rattle.qvt_meta_lists.specs.Lists.{all_lists}
+use Rattle.qvt_metamodel.specs.Lists.{all_lists}
 use Rattle.qvt_meta_repeats.specs.Flags.{number_flags}
 use Rattle.qvt_meta.specs.Numbers.{StandForNames}
 use Rattle.qvt_meta.proofs.Made.{few_features, live_same}

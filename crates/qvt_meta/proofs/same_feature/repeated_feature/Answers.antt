@@ -3,7 +3,7 @@ use Rattle.std.proofs.lemmas.List.{length-map}
 use Rattle.qvt_base.specs.declared.numbers.FeatureNo.{FeatureNo}
 use Rattle.qvt_metas.specs.Metamodels.{nowhere_feature}
 use Rattle.qvt_metamodel.specs.declared.info.FeatureInfo.{FeatureInfo}
-use Rattle.qvt_meta_lists.specs.Lists.{all_lists}
+use Rattle.qvt_metamodel.specs.Lists.{all_lists}
 use Rattle.qvt_meta_repeats.proofs.Names.{first_flagged, none_flagged}
 use Rattle.qvt_meta.proofs.Made.{live_same, repeated_same}
 use Rattle.qvt_meta.proofs.same_feature.repeated_feature.Goals as goal

@@ -2,7 +2,7 @@ use Rattle.std.proofs.Common.{◌≡◌, ◌∙◌, ◌+◌, length, drop, ap, s
 use Rattle.std.specs.List.{list_all}
 use Rattle.qvt_metas.specs.Extended.{extended}
 use Rattle.qvt_metamodel.proofs.Bools.{ap2}
-use Rattle.qvt_meta_lists.specs.Lists.{all_lists}
+use Rattle.qvt_metamodel.specs.Lists.{all_lists}
 use Rattle.qvt_meta_tables.specs.Cycles.{first_cycle}
 use Rattle.qvt_meta_given.specs.Given.{are_named_apart}
 use Rattle.qvt_meta_given.proofs.Sound.{few, are_there, not_found, none_found, lists_total, sound_of, of_sound}

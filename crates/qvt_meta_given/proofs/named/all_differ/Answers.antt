@@ -4,7 +4,7 @@ use Rattle.std.specs.List.{list_all}
 use Rattle.std.proofs.lemmas.List.{at_drop_more}
 use Rattle.qvt_base.specs.declared.numbers.FeatureNo.{FeatureNo}
 use Rattle.qvt_metamodel.proofs.Infos.{map-at_all}
-use Rattle.qvt_meta_lists.specs.Lists.{all_lists}
+use Rattle.qvt_metamodel.specs.Lists.{all_lists}
 use Rattle.qvt_meta_repeats.specs.Flags.{name_flags}
 use Rattle.qvt_meta_given.specs.Given.{are_named_apart, name_in}
 use Rattle.qvt_meta_given.proofs.named.all_differ.Goals as goal

@@ -1,5 +1,5 @@
 use Rattle.std.proofs.Common.{◌∙◌, ap, map}
-use Rattle.qvt_meta_lists.specs.Lists.{all_lists}
+use Rattle.qvt_metamodel.specs.Lists.{all_lists}
 use Rattle.qvt_meta_repeats.specs.Flags.{number_flags}
 use Rattle.qvt_meta_given.proofs.Known.{flags_known}
 use Rattle.qvt_meta_given.proofs.named.name_repeats.Goals as goal

@@ -1,7 +1,7 @@
 use Rattle.std.proofs.Common.{◌≡◌, ◌∙◌, ◌==◌, List, ℕ, [], ap, sym, subst, take, slice_index_or, position}
 use Rattle.qvt_base.specs.declared.numbers.FeatureNo.{FeatureNo}
 use Rattle.qvt_metamodel.proofs.Bools.{ap2}
-use Rattle.qvt_meta_lists.proofs.Fronts.{list_at, no_list}
+use Rattle.qvt_metamodel.proofs.Fronts.{list_at, no_list}
 use Rattle.qvt_meta_names.specs.Named.{number_at}
 use Rattle.qvt_meta_names.specs.Rooted.{tree_word, FindsPlaces}
 use Rattle.qvt_meta_names.proofs.FirstPlaces.{finds_front, told_first}

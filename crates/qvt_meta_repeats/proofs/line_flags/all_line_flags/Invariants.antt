@@ -1,5 +1,5 @@
 use Rattle.std.proofs.Common.{◌≡◌, map, take}
-use Rattle.qvt_meta_lists.specs.Lists.{front_of}
+use Rattle.qvt_metamodel.specs.Lists.{front_of}
 use Rattle.qvt_meta_repeats.specs.Flags.{number_flags, NamesAre}
 use Rattle.qvt_meta_repeats.proofs.line_flags.all_line_flags.Given as goal
 

@@ -1,7 +1,7 @@
 use Rattle.std.proofs.Common.{◌≡◌, ◌∙◌, ◌++◌, [], ap, drop, take, subst, slice_index_or}
 use Rattle.std.specs.Prelude.{IfSome}
 use Rattle.qvt_metamodel.specs.Metamodels.{each_once}
-use Rattle.qvt_meta_lists.specs.Lists.{all_lists}
+use Rattle.qvt_metamodel.specs.Lists.{all_lists}
 use Rattle.qvt_meta_tables.proofs.Once.{once_beyond}
 use Rattle.qvt_meta_tables.proofs.inherited.beyond.Goals as goal
 

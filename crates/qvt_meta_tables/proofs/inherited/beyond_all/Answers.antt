@@ -1,6 +1,6 @@
 use Rattle.std.proofs.Common.{[], refl, arith, slice_index_or}
 use Rattle.std.proofs.lemmas.Bool.{eq-eqb}
-use Rattle.qvt_meta_lists.specs.Lists.{all_lists}
+use Rattle.qvt_metamodel.specs.Lists.{all_lists}
 use Rattle.qvt_meta_tables.proofs.Once.{none_next}
 use Rattle.qvt_meta_tables.proofs.inherited.beyond_all.Goals as goal
 

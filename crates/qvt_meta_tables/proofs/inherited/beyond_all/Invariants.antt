@@ -1,7 +1,7 @@
 use Rattle.std.proofs.Common.{◌≡◌, [], drop, slice_index_or}
 use Rattle.std.specs.List.{flat_map}
 use Rattle.qvt_metamodel.specs.Metamodels.{each_once}
-use Rattle.qvt_meta_lists.specs.Lists.{all_lists}
+use Rattle.qvt_metamodel.specs.Lists.{all_lists}
 use Rattle.qvt_meta_tables.proofs.inherited.beyond_all.Given as goal
 
 abbrev pub invariant-loop-class : goal.invariant-loop-class

@@ -1,6 +1,6 @@
 use Rattle.std.proofs.Common.{◌≡◌, [], drop, slice_index_or}
 use Rattle.std.specs.List.{flat_map}
-use Rattle.qvt_meta_lists.specs.Lists.{all_lists}
+use Rattle.qvt_metamodel.specs.Lists.{all_lists}
 use Rattle.qvt_meta_tables.proofs.inherited.first_with.Given as goal
 
 abbrev pub invariant-loop-at : goal.invariant-loop-at

@@ -3,7 +3,7 @@ use Rattle.std.specs.Prelude.{IfSome}
 use Rattle.std.specs.List.{flat_map}
 use Rattle.qvt_base.specs.declared.numbers.FeatureNo.{FeatureNo}
 use Rattle.qvt_metamodel.specs.Metamodels.{each_once}
-use Rattle.qvt_meta_lists.specs.Lists.{all_lists}
+use Rattle.qvt_metamodel.specs.Lists.{all_lists}
 use Rattle.qvt_meta_tables.specs.Placed.{HasJust}
 use Rattle.qvt_meta_tables.proofs.inherited.joined.Given as goal
 

@@ -3,7 +3,7 @@ use Rattle.std.specs.Prelude.{slice_index}
 use Rattle.std.specs.List.{flat_map}
 use Rattle.std.proofs.lemmas.List.{length-set, length-replicate}
 use Rattle.qvt_metamodel.specs.Metamodels.{each_once}
-use Rattle.qvt_meta_lists.specs.Lists.{all_lists}
+use Rattle.qvt_metamodel.specs.Lists.{all_lists}
 use Rattle.qvt_meta_tables.specs.Placed.{AreNoted}
 use Rattle.qvt_meta_tables.proofs.Filling.{lists_next, lists_all, replicate-at}
 use Rattle.qvt_meta_tables.proofs.Once.{noted_next, none_noted}

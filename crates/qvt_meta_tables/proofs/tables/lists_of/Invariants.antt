@@ -1,7 +1,7 @@
 use Rattle.std.proofs.Common.{◌≡◌, ◌<◌, ℕ, [], length, slice_index_or}
 use Rattle.std.specs.Prelude.{IsTrue, slice_index}
 use Rattle.qvt_metamodel.specs.Metamodels.{features_of}
-use Rattle.qvt_meta_lists.specs.Lists.{all_lists}
+use Rattle.qvt_metamodel.specs.Lists.{all_lists}
 use Rattle.qvt_meta_tables.specs.Placed.{AreNoted, HasJustOf}
 use Rattle.qvt_meta_tables.specs.Tables.{of_classes}
 use Rattle.qvt_meta_tables.proofs.tables.lists_of.Given as goal

@@ -1,5 +1,5 @@
 use Rattle.std.proofs.Common.{◌∙◌, ap, map}
-use Rattle.qvt_meta_lists.specs.Lists.{all_lists}
+use Rattle.qvt_metamodel.specs.Lists.{all_lists}
 use Rattle.qvt_meta_repeats.specs.Flags.{number_flags}
 use Rattle.qvt_types_classes.proofs.Keys.{same_flags}
 use Rattle.qvt_types_classes.proofs.keyed.name_repeats.Goals as goal

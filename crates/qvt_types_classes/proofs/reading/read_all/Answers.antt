@@ -2,7 +2,7 @@ use Rattle.std.proofs.Common.{◌≡◌, ◌∙◌, List, Bool, [], ap, position
 use Rattle.std.specs.Prelude.{slice_index_or}
 use Rattle.qvt_base.specs.declared.numbers.FeatureNo.{FeatureNo}
 use Rattle.qvt_metamodel.proofs.Infos.{map-at_all}
-use Rattle.qvt_meta_lists.specs.Lists.{all_lists}
+use Rattle.qvt_metamodel.specs.Lists.{all_lists}
 use Rattle.qvt_meta_repeats.specs.Flags.{name_flags}
 use Rattle.qvt_types_classes.specs.declared.declared.Declared.{Declared}
 use Rattle.qvt_types_classes.specs.Inherited.{IsOwnLast}

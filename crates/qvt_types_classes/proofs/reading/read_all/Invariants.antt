@@ -1,5 +1,5 @@
 use Rattle.std.proofs.Common.{◌≡◌, ◌++◌, drop}
-use Rattle.qvt_meta_lists.specs.Lists.{all_lists}
+use Rattle.qvt_metamodel.specs.Lists.{all_lists}
 use Rattle.qvt_types_classes.specs.Inherited.{read_from, same_told_from}
 use Rattle.qvt_types_classes.proofs.reading.read_all.Given as goal
 

@@ -7,7 +7,7 @@ use Rattle.qvt_metamodel.specs.Kept.{IsKept}
 use Rattle.qvt_metamodel.specs.Metamodels.{Metamodels}
 use Rattle.qvt_metamodel.specs.declared.row.Row.{Row}
 use Rattle.qvt_metamodel.proofs.Empty.{kept, no_metamodels}
-use Rattle.qvt_meta_lists.specs.Lists.{Lists, all_lists}
+use Rattle.qvt_metamodel.specs.Lists.{Lists, all_lists}
 use Rattle.qvt_meta_names.specs.declared.place_tables.PlaceTables.{PlaceTables}
 use Rattle.qvt_metas.proofs.FeaturePlaces.{none_numbered, none_placed}
 use Rattle.qvt_metas.proofs.metas.Metas.new.Goals as goal

@@ -5,7 +5,7 @@ use Rattle.qvt_metamodel.specs.declared.row.Row.{Row}
 use Rattle.qvt_metamodel.specs.Metamodels.{Metamodels}
 use Rattle.qvt_metamodel.specs.Joined.{ClassFits, FeatureFits, class_info_on, feature_info_on, row_on, joined}
 use Rattle.qvt_metamodel.proofs.Bools.{ap2}
-use Rattle.qvt_meta_lists.specs.Lists.{all_lists}
+use Rattle.qvt_metamodel.specs.Lists.{all_lists}
 use Rattle.qvt_metas.specs.Held.{capped_on}
 use Rattle.qvt_metas.proofs.Lines.{lists_capped}
 use Rattle.qvt_metas.proofs.Withs.{Both, both_of, classes_go_on, features_go_on, lists_go_on, rows_go_on, ranks_go_on, same, tables}

@@ -4,7 +4,7 @@ use Rattle.qvt_metamodel.specs.Metamodels.{Metamodels}
 use Rattle.qvt_metamodel.specs.Kept.{IsKept}
 use Rattle.qvt_metamodel.specs.Extended.{extended, AreGiven, HasRoomFor, element_class, given_classes, given_features}
 use Rattle.qvt_metamodel.proofs.Bools.{ap2}
-use Rattle.qvt_meta_lists.specs.Lists.{all_lists}
+use Rattle.qvt_metamodel.specs.Lists.{all_lists}
 use Rattle.qvt_meta_tables.specs.Search.{AreLive, IsAcyclic}
 use Rattle.qvt_meta_tables.specs.Tables.{of_classes, AreTables}
 use Rattle.qvt_metas.proofs.Extends.{W, kept, live_superclass, is_extended, class_total}

@@ -1,7 +1,7 @@
 use Rattle.std.proofs.Common.{◌≡◌, ◌∙◌, ℕ, false, subst, ◌++◌, ◌∷◌, [], sym, ap, length}
 use Rattle.std.specs.Prelude.{Option, Ok}
 use Rattle.qvt_value.specs.declared.value.Value.{Value}
-use Rattle.qvt_metas.specs.Metamodels.{shape_of}
+use Rattle.qvt_metamodel.specs.Metamodels.{shape_of}
 use Rattle.qvt_slots.specs.Contents.{Contents, slot_of}
 use Rattle.qvt_slots.specs.Assign.{exceeds_bound, change_to, store_after}
 use Rattle.qvt_store.specs.Ready.{IsLone}

@@ -1,7 +1,7 @@
 use Rattle.std.proofs.Common.{◌≡◌, ◌↔◌, ◌∙◌, ℕ, List, refl, sym, subst, true, false}
 use Rattle.qvt_base.specs.declared.numbers.Oid.{Oid}
-use Rattle.qvt_metas.specs.Metamodels.{is_containment}
-use Rattle.qvt_metas.specs.WellFormed.{IsWellFormed}
+use Rattle.qvt_metamodel.specs.Metamodels.{is_containment}
+use Rattle.qvt_metamodel.specs.WellFormed.{IsWellFormed}
 use Rattle.qvt_relation.proofs.Bools.{clash}
 use Rattle.qvt_slots.specs.Change.{is_container, among_objects}
 use Rattle.qvt_slots.specs.Contents.{Contents, slot_of, is_live}

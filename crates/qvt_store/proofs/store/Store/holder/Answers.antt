@@ -2,7 +2,7 @@ use Rattle.std.proofs.Common.{◌≡◌, ◌∙◌, sym, subst, arith, ℕ, true
 use Rattle.std.specs.Prelude.{IfSome, Some, None, Option}
 use Rattle.qvt_slots.proofs.Cells.{cell-holder, holder_some, no_holder}
 use Rattle.qvt_slots.specs.declared.cell.Holder.{Holder}
-use Rattle.qvt_metas.specs.Metamodels.{is_containment}
+use Rattle.qvt_metamodel.specs.Metamodels.{is_containment}
 use Rattle.qvt_slots.specs.Slots.{has}
 use Rattle.qvt_slots.specs.Contents.{Contents, slot_of}
 use Rattle.qvt_slots.specs.Cells.{holder_in}

@@ -1,7 +1,7 @@
 use Rattle.std.proofs.Common.{◌≡◌, ◌<◌, ◌∙◌, sym, subst, length, List, [], arith}
 use Rattle.std.specs.Prelude.{slice_index_or}
 use Rattle.qvt_value.specs.declared.value.Value.{Value}
-use Rattle.qvt_metas.specs.Metamodels.{features_of}
+use Rattle.qvt_metamodel.specs.Metamodels.{features_of}
 use Rattle.qvt_slots.specs.Cells.{IsPlaceOf}
 use Rattle.qvt_slots.specs.Contents.{Contents, slot_of}
 use Rattle.qvt_slots.proofs.Cells.{cell-slots, slot-cell, empty_slot, dead_slot}

@@ -1,7 +1,7 @@
 use Rattle.std.proofs.Common.{sym, subst, List, length, true}
 use Rattle.qvt_slots.specs.declared.cell.Cell.{Cell}
 use Rattle.qvt_slots.specs.declared.extent.Extent.{Extent}
-use Rattle.qvt_metas.specs.Metamodels.{Metamodels}
+use Rattle.qvt_metamodel.specs.Metamodels.{Metamodels}
 use Rattle.qvt_slots.specs.Contents.{AreNamed}
 use Rattle.qvt_slots.specs.Cells.{contents_of, IsStoreKept}
 use Rattle.qvt_slots.specs.Members.{AreEmpty}

@@ -1,5 +1,5 @@
 use Rattle.std.proofs.Common.{refl, sym, subst, List}
-use Rattle.qvt_metas.specs.WellFormed.{IsWellFormed}
+use Rattle.qvt_metamodel.specs.WellFormed.{IsWellFormed}
 use Rattle.qvt_slots.specs.declared.commit.Write.{Write}
 use Rattle.qvt_slots.specs.Contents.{Contents}
 use Rattle.qvt_store.specs.Draft.{drafted}

@@ -1,7 +1,7 @@
 use Rattle.std.proofs.Common.{◌≡◌, ◌∙◌, sym, subst, List, true, false}
 use Rattle.qvt_base.specs.declared.numbers.Oid.{Oid}
-use Rattle.qvt_metas.specs.Metamodels.{is_containment}
-use Rattle.qvt_metas.specs.WellFormed.{IsWellFormed}
+use Rattle.qvt_metamodel.specs.Metamodels.{is_containment}
+use Rattle.qvt_metamodel.specs.WellFormed.{IsWellFormed}
 use Rattle.qvt_slots.specs.Contents.{Contents}
 use Rattle.qvt_store.specs.Draft.{drafted}
 use Rattle.qvt_store.specs.Plan.{Plans, IsAroundSome}

@@ -1,7 +1,7 @@
 use Rattle.std.proofs.Common.{◌≡◌, ◌∙◌, sym, subst, List}
 use Rattle.std.specs.Prelude.{Some}
 use Rattle.qvt_base.specs.declared.numbers.Oid.{Oid}
-use Rattle.qvt_metas.specs.Metamodels.{opposite}
+use Rattle.qvt_metamodel.specs.Metamodels.{opposite}
 use Rattle.qvt_slots.specs.Contents.{Contents}
 use Rattle.qvt_store.specs.Draft.{drafted}
 use Rattle.qvt_store.specs.Plan.{Plans, IsSlotOfSome, IsOwnerSlot}

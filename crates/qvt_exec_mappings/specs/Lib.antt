@@ -1,1 +1,0 @@
-pub use Rattle.qvt_exec_candidates.specs.Stage

@@ -1,8 +1,0 @@
-use Rattle.qvt_exec_calls.specs.Program.{program_view}
-use Rattle.qvt_exec_candidates.specs.Stage.{setting_in}
-use Rattle.qvt_exec_routines.proofs.Found.{found}
-use Rattle.qvt_exec_routines.proofs.routine_at.routine_at.Goals as goal
-
-pub returns : goal.returns
-returns g c = λ run. found (setting_in (run, g.C.UnitCalls.means c.args.units.now)) (g.C.UnitCalls.means c.args.units.now).calls c.args.number (program_view c.program-program.result.now) c.signature_of.result.now _ c.routine_in.result
-    c.program-program.ensures c.signature_of.ensures c.unit_of.ensures (c.routine_in.ensures _ _)
