@@ -1,5 +1,2 @@
-pub mod Faults
-pub mod Sources
-mod Typings
 pub mod Ending
 pub mod Conforming

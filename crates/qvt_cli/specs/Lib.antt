@@ -1,4 +1,3 @@
 pub mod Commands
-pub mod Typing
 pub mod Entries
 pub mod Written

@@ -6,11 +6,11 @@ ghost use Rattle.qvt_outcome.specs.Follows.{Follows};
 ghost use Rattle.qvt_work.specs.Conforming.{CommandConforms};
 ghost use Rattle.qvt_work.specs.Work.{work_of};
 
-use crate::check::perform_check;
-use crate::print::perform_print;
 use crate::run::perform_run;
 use crate::words::Command;
 use qvt_base::outside::Files;
+use qvt_cli_reading::check::perform_check;
+use qvt_cli_reading::print::perform_print;
 use qvt_outcome::plan::Plan;
 use qvt_outcome::stop::Stop;
 use std::alloc::Global;

@@ -5,9 +5,9 @@ ghost use Rattle.qvt_exec_state.specs.Runs.{Runs, seen};
 
 use qvt_exec_answers::exprs::expression;
 use qvt_exec_called::statements::in_scope;
-use qvt_exec_phrases::units::ReadyUnits;
 use qvt_exec_phrases::engine::Engine;
 use qvt_exec_phrases::nested::Nested;
+use qvt_exec_phrases::units::ReadyUnits;
 use qvt_exec_state::state::RunState;
 use qvt_run_data::exit::Halt;
 use qvt_types_nodes::tree::{TypedExpr, TypedStmts};

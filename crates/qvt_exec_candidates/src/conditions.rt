@@ -9,9 +9,9 @@ ghost use Rattle.qvt_exec_state.specs.Runs.{Runs, seen};
 ghost use Rattle.qvt_exec_candidates.specs.Stage.{setting_in};
 
 use crate::run::Run;
-use qvt_exec_phrases::units::ReadyUnits;
 use qvt_exec_phrases::engine::Engine;
 use qvt_exec_phrases::nested::Nested;
+use qvt_exec_phrases::units::ReadyUnits;
 use qvt_exec_state::state::RunState;
 use qvt_exec_statements::conditions::holds;
 use qvt_run_data::exit::Halt;

@@ -11,9 +11,9 @@ ghost use Rattle.qvt_meaning.specs.Units as of_units;
 ghost use Rattle.qvt_exec_candidates.specs.Stage.{mappings_of, rule_in, rule_of};
 ghost use Rattle.qvt_exec_candidates.specs.declared.run.Run.{Run};
 
+use qvt_exec_phrases::nested::{Nested, program};
 use qvt_exec_phrases::numbers::{mapping_unit, signature_of, unit_of};
 use qvt_exec_phrases::units::ReadyUnits;
-use qvt_exec_phrases::nested::{Nested, program};
 use qvt_types_nodes::module::{TypedMapping, TypedUnit};
 use qvt_types_units::signature::Signature;
 

@@ -13,10 +13,10 @@ use qvt_base::copied::Copied;
 use qvt_base::list_fault::ListFault;
 use qvt_base::numbers::FeatureNo;
 use qvt_base::text::Text;
-use qvt_metamodel::lists::FeatureLists;
 use qvt_meta_names::feature_tables::{feature_table, name_numbers};
 use qvt_meta_repeats::repeats::Repeats;
 use qvt_metamodel::declared::MetaData;
+use qvt_metamodel::lists::FeatureLists;
 use qvt_metas::info::FeatureInfo;
 use std::alloc::Global;
 

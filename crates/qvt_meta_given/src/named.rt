@@ -11,10 +11,10 @@ ghost use Rattle.qvt_meta_repeats.specs.Flags.{name_flags};
 ghost use Rattle.qvt_meta_given.specs.Given.{name_in, are_named_apart, known_names};
 
 use qvt_base::list_fault::ListFault;
-use qvt_metamodel::lists::FeatureLists;
 use qvt_meta_names::feature_tables::name_numbers;
 use qvt_meta_names::name_table::NameTable;
 use qvt_meta_repeats::repeats::Repeats;
+use qvt_metamodel::lists::FeatureLists;
 use qvt_metas::info::FeatureInfo;
 use std::alloc::Global;
 

@@ -7,9 +7,9 @@ ghost use Rattle.qvt_meta_repeats.specs.Flags.{number_flags, NamesAre};
 use qvt_base::list_fault::ListFault;
 use qvt_base::numbers::FeatureNo;
 use qvt_base::seq::Seq;
+use qvt_meta_tables::number_set::MarkedNumbers;
 use qvt_metamodel::front::Front;
 use qvt_metamodel::lists::FeatureLists;
-use qvt_meta_tables::number_set::MarkedNumbers;
 use std::alloc::Global;
 use std::marker::Model;
 

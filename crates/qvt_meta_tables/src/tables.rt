@@ -13,8 +13,8 @@ use crate::order::{Order, order_of};
 use crate::rows::rows_of;
 use qvt_base::list_fault::ListFault;
 use qvt_base::numbers::{ClassNo, FeatureNo};
-use qvt_metamodel::lists::FeatureLists;
 use qvt_metamodel::info::ClassInfo;
+use qvt_metamodel::lists::FeatureLists;
 use qvt_metamodel::row::Row;
 use std::alloc::Global;
 

@@ -14,7 +14,6 @@ use qvt_base::copied::Copied;
 use qvt_base::list_fault::ListFault;
 use qvt_base::numbers::{ClassNo, FeatureNo};
 use qvt_base::text::Text;
-use qvt_metamodel::lists::FeatureLists;
 use qvt_meta_names::class_tables::class_tables;
 use qvt_meta_names::enum_tables::{EnumTable, enum_tables};
 use qvt_meta_names::feature_tables::{feature_table, name_numbers};
@@ -28,6 +27,7 @@ use qvt_metamodel::given::{ClassData, ClassDataList};
 use qvt_metamodel::info::{
     ClassInfo, EnumInfo, FeatureInfo, FeatureShape, MetamodelInfo, TypeKind,
 };
+use qvt_metamodel::lists::FeatureLists;
 use qvt_metamodel::row::{Row, is_marked};
 use std::alloc::Global;
 use std::marker::Model;

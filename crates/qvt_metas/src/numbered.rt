@@ -1,8 +1,8 @@
 ghost use Rattle.std.specs.Prelude.{◌≡◌, None};
 
-use qvt_metamodel::lists::FeatureLists;
 use qvt_meta_tables::tables::Tables;
 use qvt_metamodel::info::{ClassInfo, FeatureInfo, MetamodelInfo};
+use qvt_metamodel::lists::FeatureLists;
 use qvt_metamodel::row::Row;
 use std::marker::Model;
 

@@ -9,8 +9,8 @@ ghost use Rattle.qvt_types_classes.specs.Keys as names;
 use crate::declared::Property;
 use qvt_base::list_fault::ListFault;
 use qvt_base::seq::Seq;
-use qvt_metamodel::lists::FeatureLists;
 use qvt_meta_repeats::repeats::Repeats;
+use qvt_metamodel::lists::FeatureLists;
 use qvt_types_paths::name_index::NameIndex;
 use std::alloc::Global;
 

@@ -9,8 +9,8 @@ use qvt_base::lists::FeatureNoList;
 use qvt_base::numbers::FeatureNo;
 use qvt_base::seq::Seq;
 use qvt_base::text::Text;
-use qvt_metamodel::lists::FeatureLists;
 use qvt_metamodel::copied::copies;
+use qvt_metamodel::lists::FeatureLists;
 use std::alloc::Global;
 use std::test::Fail;
 

@@ -1,0 +1,3 @@
+mod Faults
+mod Sources
+mod Typings
