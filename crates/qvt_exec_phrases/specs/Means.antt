@@ -1,5 +1,6 @@
 -- What the phrases of a program mean.
-use Rattle.std.specs.Prelude.{◌≡◌, ℕ, Bool, true, false, List, [], ◌∷◌, ◌++◌, map, option_map, Option, Some, None, Result, Ok, Err}
+use Rattle.std.specs.Prelude.{◌≡◌, ℕ, Bool, true, false, List, [], ◌∷◌, ◌++◌, map, option_map, Option, Some, None, Result, Ok, Err, Box}
+use Rattle.std.specs.declared.alloc.Global.{Global}
 use Rattle.qvt_base.specs.declared.numbers.Place.{Place}
 use Rattle.qvt_value.specs.declared.value.Kind.{Kind}
 use Rattle.qvt_value.specs.declared.value.Value.{Value}
@@ -21,7 +22,7 @@ use Rattle.qvt_types_nodes.specs.declared.tree.TypedMapCall.{TypedMapCall}
 use Rattle.qvt_types_nodes.specs.declared.tree.TypedStep.{TypedStep}
 use Rattle.qvt_types_nodes.specs.declared.tree.TypedStmt.{TypedStmt}
 use Rattle.qvt_types_nodes.specs.declared.tree.TypedTarget.{TypedTarget}
-use Rattle.qvt_types_nodes.specs.View.{typed_arm_view, typed_arms_of, typed_expr_view, typed_exprs_of, typed_item_view, typed_items_of, typed_link_view, typed_links_of, typed_map_view, typed_optional_else, typed_optional_expr, typed_step_view, typed_steps_of, typed_stmt_view, typed_stmts_of, typed_target_view, typed_head_view, typed_optional_head}
+use Rattle.qvt_types_nodes.specs.View.{typed_arm_view, typed_arms_of, typed_boxed_view, typed_expr_view, typed_exprs_of, typed_item_view, typed_items_of, typed_link_view, typed_links_of, typed_map_view, typed_optional_else, typed_optional_expr, typed_step_view, typed_steps_of, typed_stmt_view, typed_stmts_of, typed_target_view, typed_head_view, typed_optional_head}
 use Rattle.qvt_program_units.specs.Accepts.{ProgramTerm}
 use Rattle.qvt_exec_state.specs.Runs.{seen}
 use Rattle.qvt_exec_state.specs.declared.state.RunState.{RunState}
@@ -115,8 +116,8 @@ optional_of x o = optional (setting_of x) x.1.calls x.0.answer.now (typed_option
 unfoldable pub return_of : Scene → Option TypedExpr → Does LateWrite (Unit {0})
 return_of x o = return_ (setting_of x) x.1.calls x.0.answer.now (typed_optional_expr (option_map typed_expr_view o))
 
-unfoldable pub guarded_of : Scene → Option TypedExpr → Does LateWrite (Unit {0}) → Does LateWrite (Unit {0})
-guarded_of x o body = guarded (setting_of x) x.1.calls x.0.answer.now (typed_optional_expr (option_map typed_expr_view o)) body
+unfoldable pub guarded_of : Scene → Option (Box TypedExpr Global) → Does LateWrite (Unit {0}) → Does LateWrite (Unit {0})
+guarded_of x o body = guarded (setting_of x) x.1.calls x.0.answer.now (typed_boxed_view o) body
 
 unfoldable pub target_of : Scene → TypedTarget → TargetDoes LateWrite
 target_of x t = target (setting_of x) x.1.calls x.0.answer.now (typed_target_view t)
@@ -150,5 +151,5 @@ unfoldable pub map_step_of : Scene → Bool → TypedMapCall → Value → Does 
 map_step_of x all m = map_step (setting_of x) x.1.calls x.0.answer.now all (typed_map_view m)
 
 -- a turn of a `forEach`
-abbrev pub for_each_item : Scene → List ℕ → Option Ty → Option TypedExpr → List TypedStmt → Value → Does LateWrite (Unit {0})
+abbrev pub for_each_item : Scene → List ℕ → Option Ty → Option (Box TypedExpr Global) → List TypedStmt → Value → Does LateWrite (Unit {0})
 for_each_item x name t c ss v = statement.for_item name t (guarded_of x c (block_of x ss)) v

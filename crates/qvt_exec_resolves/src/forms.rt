@@ -2,7 +2,7 @@
 
 ghost use Rattle.std.specs.Prelude.{◌≡◌, option_map, IfOk};
 ghost use Rattle.std.specs.Option.{option_copied};
-ghost use Rattle.qvt_types_nodes.specs.View.{typed_filter_view, typed_optional_filter, typed_resolve_view, typed_type_view};
+ghost use Rattle.qvt_types_nodes.specs.View.{typed_boxed_filter_view, typed_resolve_view, typed_type_view};
 ghost use Rattle.qvt_exec_types.specs.Program.{program_view};
 ghost use Rattle.qvt_meaning.specs.Nodes as nodes;
 ghost use Rattle.qvt_meaning.specs.Program as meaning;
@@ -118,9 +118,9 @@ fn class_for(
     program: &Program,
     word: ResolveWord,
     named: Option<u32>,
-    filter: &Option<TypedFilter>,
+    filter: &Option<Box<TypedFilter>>,
 ) -> Option<u32>
-    ensures { result ≡ meaning.class_for (program_view program.now) word named (typed_optional_filter (option_map typed_filter_view filter.now)) }
+    ensures { result ≡ meaning.class_for (program_view program.now) word named (typed_boxed_filter_view filter.now) }
 {
     match filter {
         Some(filter) => written_class(&filter.kind),
@@ -129,8 +129,8 @@ fn class_for(
 }
 
 /// The number of the condition.
-fn condition_in(filter: &Option<TypedFilter>) -> Option<ExprNo>
-    ensures { result ≡ meaning.condition_in (typed_optional_filter (option_map typed_filter_view filter.now)) }
+fn condition_in(filter: &Option<Box<TypedFilter>>) -> Option<ExprNo>
+    ensures { result ≡ meaning.condition_in (typed_boxed_filter_view filter.now) }
 {
     match filter {
         None => None,
@@ -147,10 +147,10 @@ fn form_with(
     program: &Program,
     word: ResolveWord,
     named: Option<u32>,
-    filter: &Option<TypedFilter>,
+    filter: &Option<Box<TypedFilter>>,
     class: Option<u32>,
 ) -> Result<Option<RequestForm>, ListFault>
-    ensures { IfOk result (λ form. form ≡ meaning.form_with (program_view program.now) word named (typed_optional_filter (option_map typed_filter_view filter.now)) class) }
+    ensures { IfOk result (λ form. form ≡ meaning.form_with (program_view program.now) word named (typed_boxed_filter_view filter.now) class) }
 {
     let Some(class) = class else {
         return Ok(None);

@@ -54,7 +54,7 @@ pub(crate) fn turn<C: Nested>(
 pub(crate) fn guarded<C: Nested>(
     x: &Engine<'_>,
     units: &ReadyUnits<C>,
-    condition: &Option<TypedExpr>,
+    condition: &Option<Box<TypedExpr>>,
     body: &TypedStmts,
     state: &mut RunState<'_>,
 ) -> Result<(), Halt>

@@ -1,5 +1,5 @@
 -- What the head of an iterator has.
-use Rattle.std.proofs.Common.{◌≡◌, ◌∙◌, ℕ, ap, option_map, List, Option, Some, None, arith}
+use Rattle.std.proofs.Common.{◌≡◌, ◌∙◌, ℕ, ap, List, Option, Some, None, Box, Global, arith}
 use Rattle.qvt_base.specs.declared.numbers.Place.{Place}
 use Rattle.qvt_value.specs.declared.value.Value.{Value}
 use Rattle.qvt_run_data.specs.declared.late.LateWrite.{LateWrite}
@@ -15,7 +15,7 @@ use Rattle.qvt_exec_types.specs.Phrases as phrase
 use Rattle.qvt_exec_types.specs.Readings as by
 use Rattle.qvt_exec_invocations.specs.Means.{Scene, expr_of, head_of, setting_of}
 
-head_view_is : (h : TypedHead) → view.typed_head_view h ≡ TypedHeadOf (out-TypedHead h).name (view.typed_optional_type (out-TypedHead h).kind) (view.typed_optional_accumulator (option_map view.typed_accumulator_view (out-TypedHead h).accumulator)) (out-TypedHead h).place (out-TypedHead h).note
+head_view_is : (h : TypedHead) → view.typed_head_view h ≡ TypedHeadOf (out-TypedHead h).name (view.typed_optional_type (out-TypedHead h).kind) (view.typed_boxed_accumulator_view (out-TypedHead h).accumulator) (out-TypedHead h).place (out-TypedHead h).note
 head_view_is h = folds.fold_out-TypedHead TypedExprTerm TypedStepTerm TypedStmtTerm TypedTargetTerm TypedAccumulatorTerm TypedArmTerm TypedFilterTerm TypedHeadTerm TypedItemTerm TypedLinkTerm TypedMapTerm TypedRangeTerm TypedResolveTerm view.typed_expr_step view.typed_step_step view.typed_stmt_step view.typed_target_step view.typed_accumulator_step view.typed_arm_step view.typed_filter_step view.typed_head_step view.typed_item_step view.typed_link_step view.typed_map_step view.typed_range_step view.typed_resolve_step h ∙ (grind arith)
 
 accumulator_view_is : (a : TypedAccumulator) → view.typed_accumulator_view a ≡ TypedAccumulatorOf (out-TypedAccumulator a).name (view.typed_type_view (out-TypedAccumulator a).kind) (view.typed_expr_view (out-TypedAccumulator a).first) (out-TypedAccumulator a).place (out-TypedAccumulator a).note
@@ -25,7 +25,7 @@ accumulator_view_is a = folds.fold_out-TypedAccumulator TypedExprTerm TypedStepT
 abbrev first_of : Scene → TypedAccumulatorTerm → Option (List ℕ × Does LateWrite Value)
 first_of x a = phrase.accumulator (setting_of x) x.1.calls x.0.answer.now a
 
-of_head : (x : Scene) (h : TypedHead) → (head_of x (Some h)).accumulator ≡ first_of x (view.typed_optional_accumulator (option_map view.typed_accumulator_view (out-TypedHead h).accumulator))
+of_head : (x : Scene) (h : TypedHead) → (head_of x (Some h)).accumulator ≡ first_of x (view.typed_boxed_accumulator_view (out-TypedHead h).accumulator)
 unfolding head_of phrase.head
 of_head x h = ap (λ (t : TypedHeadTerm). (phrase.head (setting_of x) x.1.calls x.0.answer.now t).accumulator) (head_view_is h)
 
@@ -37,15 +37,15 @@ pub head_without : (x : Scene) (head : Option TypedHead) (h : TypedHead) → hea
 unfolding phrase.accumulator
 head_without x head h is none =
     ap (λ (k : Option TypedHead). (head_of x k).accumulator) is ∙ of_head x h
-    ∙ ap (λ (a : Option TypedAccumulator). first_of x (view.typed_optional_accumulator (option_map view.typed_accumulator_view a))) none
+    ∙ ap (λ (a : Option (Box TypedAccumulator Global)). first_of x (view.typed_boxed_accumulator_view a)) none
 
-pub head_with : (x : Scene) (head : Option TypedHead) (h : TypedHead) (a : TypedAccumulator) → head ≡ Some h → (out-TypedHead h).accumulator ≡ Some a →
-    (head_of x head).accumulator ≡ Some ((out-TypedAccumulator a).name, expr_of x (out-TypedAccumulator a).first)
+pub head_with : (x : Scene) (head : Option TypedHead) (h : TypedHead) (a : Box TypedAccumulator Global) → head ≡ Some h → (out-TypedHead h).accumulator ≡ Some a →
+    (head_of x head).accumulator ≡ Some ((out-TypedAccumulator a.value).name, expr_of x (out-TypedAccumulator a.value).first)
 unfolding expr_of phrase.accumulator
 head_with x head h a is some =
     ap (λ (k : Option TypedHead). (head_of x k).accumulator) is ∙ of_head x h
-    ∙ ap (λ (b : Option TypedAccumulator). first_of x (view.typed_optional_accumulator (option_map view.typed_accumulator_view b))) some
-    ∙ ap (first_of x) (accumulator_view_is a)
+    ∙ ap (λ (b : Option (Box TypedAccumulator Global)). first_of x (view.typed_boxed_accumulator_view b)) some
+    ∙ ap (first_of x) (accumulator_view_is a.value)
 
 -- `iterate` without an accumulator
 pub iterate_without : (x : Scene) (head : Option TypedHead) (p : Does LateWrite Value) (at : Place) (v : Value) → (head_of x head).accumulator ≡ None →

@@ -1,7 +1,7 @@
 //! The types of resolves.
 
 ghost use Rattle.std.specs.Prelude.{◌≡◌, option_map, IfOk};
-ghost use Rattle.qvt_types_nodes.specs.View.{typed_filter_view, typed_optional_filter, typed_resolve_view};
+ghost use Rattle.qvt_types_nodes.specs.View.{typed_boxed_filter_view, typed_resolve_view};
 ghost use Rattle.qvt_types_program.specs.Program.{program_view};
 ghost use Rattle.qvt_meaning.specs.Program as words;
 ghost use Rattle.qvt_meaning.specs.StepTypes as types;
@@ -93,9 +93,9 @@ fn class_for(
     program: &Program,
     word: ResolveWord,
     mapping: Option<MappingNo>,
-    filter: &Option<TypedFilter>,
+    filter: &Option<Box<TypedFilter>>,
 ) -> ClassPart
-    ensures { result ≡ types.class_part (words.class_for (program_view program.now) word (option_map (λ m. m.0) mapping) (typed_optional_filter (option_map typed_filter_view filter.now))) }
+    ensures { result ≡ types.class_part (words.class_for (program_view program.now) word (option_map (λ m. m.0) mapping) (typed_boxed_filter_view filter.now)) }
 {
     match filter {
         Some(filter) => class_in(written_type(&filter.kind)),
@@ -109,9 +109,9 @@ fn found_type(
     program: &Program,
     word: ResolveWord,
     within: &Option<TypedPathTree>,
-    filter: &Option<TypedFilter>,
+    filter: &Option<Box<TypedFilter>>,
 ) -> Result<Option<Ty>, ListFault>
-    ensures { IfOk result (λ t. t ≡ types.form_type word (words.form_with (program_view program.now) word (words.within_named within.now) (typed_optional_filter (option_map typed_filter_view filter.now)) (words.class_for (program_view program.now) word (words.within_named within.now) (typed_optional_filter (option_map typed_filter_view filter.now))))) }
+    ensures { IfOk result (λ t. t ≡ types.form_type word (words.form_with (program_view program.now) word (words.within_named within.now) (typed_boxed_filter_view filter.now) (words.class_for (program_view program.now) word (words.within_named within.now) (typed_boxed_filter_view filter.now)))) }
 {
     let mapping = within_named(within);
     let class = class_for(alloc, program, word, mapping, filter);

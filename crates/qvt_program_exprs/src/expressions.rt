@@ -86,6 +86,20 @@ pub fn optional<'a>(
 }
 
 #[cycle(listing)]
+#[tactic(auto, unfolding(qvt_meaning::specs::Numbered::in_optional))]
+pub fn boxed<'a>(
+    node: &'a Option<Box<TypedExpr>>,
+    all: &mut ListedExprList<'a>,
+) -> Result<(), ListFault>
+    ensures { OnOk result (listing all.new ≡ listing all.old ++ numbered.in_optional None (view.typed_boxed_view node.now)) }
+{
+    match node {
+        None => Ok(()),
+        Some(node) => expr(FilterName::NoFilter, node, all),
+    }
+}
+
+#[cycle(listing)]
 #[tactic(auto, unfolding(qvt_meaning::specs::Numbered::in_links, qvt_meaning::specs::Numbered::in_link))]
 pub fn links<'a>(nodes: &'a [TypedLink], all: &mut ListedExprList<'a>) -> Result<(), ListFault>
     ensures { OnOk result (listing all.new ≡ listing all.old ++ numbered.in_links (view.typed_links_of (map view.typed_link_view nodes.now))) }
@@ -145,10 +159,10 @@ pub fn filter<'a>(node: &'a TypedFilter, all: &mut ListedExprList<'a>) -> Result
 #[cycle(listing)]
 #[tactic(auto, unfolding(qvt_meaning::specs::Numbered::in_filter))]
 pub fn optional_filter<'a>(
-    node: &'a Option<TypedFilter>,
+    node: &'a Option<Box<TypedFilter>>,
     all: &mut ListedExprList<'a>,
 ) -> Result<(), ListFault>
-    ensures { OnOk result (listing all.new ≡ listing all.old ++ numbered.in_filter (view.typed_optional_filter (option_map view.typed_filter_view node.now))) }
+    ensures { OnOk result (listing all.new ≡ listing all.old ++ numbered.in_filter (view.typed_boxed_filter_view node.now)) }
 {
     match node {
         None => Ok(()),
@@ -159,10 +173,10 @@ pub fn optional_filter<'a>(
 #[cycle(listing)]
 #[tactic(auto, unfolding(qvt_meaning::specs::Numbered::in_accumulator))]
 pub fn optional_accumulator<'a>(
-    node: &'a Option<TypedAccumulator>,
+    node: &'a Option<Box<TypedAccumulator>>,
     all: &mut ListedExprList<'a>,
 ) -> Result<(), ListFault>
-    ensures { OnOk result (listing all.new ≡ listing all.old ++ numbered.in_accumulator (view.typed_optional_accumulator (option_map view.typed_accumulator_view node.now))) }
+    ensures { OnOk result (listing all.new ≡ listing all.old ++ numbered.in_accumulator (view.typed_boxed_accumulator_view node.now)) }
 {
     match node {
         None => Ok(()),

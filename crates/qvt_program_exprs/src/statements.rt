@@ -5,7 +5,7 @@ ghost use Rattle.qvt_types_nodes.specs.View as view;
 ghost use Rattle.qvt_meaning.specs.Numbered as numbered;
 ghost use Rattle.qvt_program_exprs.specs.Listing.{listing};
 
-use crate::expressions::{expr, optional};
+use crate::expressions::{boxed, expr, optional};
 use crate::listed::{FilterName, ListedExprList};
 use qvt_base::list_fault::ListFault;
 use qvt_types_nodes::tree::{TypedArm, TypedStmt, TypedTarget};
@@ -69,7 +69,7 @@ pub fn stmt<'a>(node: &'a TypedStmt, all: &mut ListedExprList<'a>) -> Result<(),
             ..
         } => {
             expr(FilterName::NoFilter, source, all)?;
-            optional(condition, all)?;
+            boxed(condition, all)?;
             stmts(body.as_slice(), all)
         }
     }

@@ -1,7 +1,7 @@
 //! Units, and a whole program.
 
 ghost use Rattle.std.specs.Prelude.{◌≡◌, ◌++◌, None, map, IfOk, OnOk};
-ghost use Rattle.qvt_types_nodes.specs.Module.{typed_condition_view, typed_unit_view};
+ghost use Rattle.qvt_types_nodes.specs.Module.{TypedMappingOf, typed_condition_view, typed_mapping_view, typed_unit_view};
 ghost use Rattle.qvt_meaning.specs.Numbered as numbered;
 ghost use Rattle.qvt_types_program.specs.Program.{program_view};
 ghost use Rattle.qvt_program_exprs.specs.Listing.{listing};
@@ -27,15 +27,13 @@ fn condition<'a>(node: &'a Option<TypedExpr>, all: &mut ListedExprList<'a>) -> R
 }
 
 fn mapping<'a>(node: &'a TypedMapping, all: &mut ListedExprList<'a>) -> Result<(), ListFault>
-    ensures { OnOk result (listing all.new ≡ listing all.old ++ numbered.in_unit (typed_unit_view (units.Mapping node.now))) }
+    ensures { OnOk result (listing all.new ≡ listing all.old ++ numbered.in_unit (TypedMappingOf (typed_mapping_view node.now))) }
 {
     condition(&node.condition, all)?;
     stmts(node.init.as_slice(), all)?;
     stmts(node.population.as_slice(), all)?;
     stmts(node.finish.as_slice(), all)
 }
-
-ghost use Rattle.qvt_types_nodes.specs.declared.module.TypedUnit.TheVariants as units;
 
 fn unit<'a>(node: &'a TypedUnit, all: &mut ListedExprList<'a>) -> Result<(), ListFault>
     ensures { OnOk result (listing all.new ≡ listing all.old ++ numbered.in_unit (typed_unit_view node.now)) }

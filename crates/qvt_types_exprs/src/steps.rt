@@ -2,10 +2,9 @@
 
 ghost use Rattle.std.specs.Prelude.{◌≡◌, map};
 ghost use Rattle.std.specs.Option.{option_map};
-ghost use Rattle.qvt_types_leaves.specs.Joins.{typed_boxed_view};
 ghost use Rattle.qvt_types_exprs.specs.Made.{held, unboxed, MakesNode, Noted};
 ghost use Rattle.qvt_types_nodes.specs.Tree.{TypedLinkOf, TypedRangeTo, TypedItemOf, TypedMapOf, TypedResolveOf, TypedFilterOf, TypedHeadOf, TypedAccumulatorOf, TypedDotStep, TypedArrowStep, TypedDotMapStep, TypedArrowMapStep, TypedDotResolveStep, TypedArrowResolveStep};
-ghost use Rattle.qvt_types_nodes.specs.View.{typed_type_view, typed_optional_type, typed_expr_view, typed_exprs_of, typed_link_view, typed_range_view, typed_item_view, typed_map_view, typed_resolve_view, typed_filter_view, typed_head_view, typed_accumulator_view, typed_step_view, typed_optional_args, typed_optional_range, typed_optional_filter, typed_optional_head, typed_optional_accumulator};
+ghost use Rattle.qvt_types_nodes.specs.View.{typed_type_view, typed_optional_type, typed_expr_view, typed_exprs_of, typed_link_view, typed_range_view, typed_item_view, typed_map_view, typed_resolve_view, typed_filter_view, typed_head_view, typed_accumulator_view, typed_step_view, typed_optional_args, typed_optional_range, typed_optional_head, typed_boxed_view, typed_boxed_filter_view, typed_boxed_accumulator_view};
 
 use qvt_base::copied::Copied;
 use qvt_base::list_fault::ListFault;
@@ -120,7 +119,7 @@ pub fn resolve_call(
     place: Place,
     notes: &mut Notes,
 ) -> Result<Box<TypedResolveCall>, ListFault>
-    ensures { Noted typed_resolve_view (TypedResolveOf late word (unboxed within) (typed_optional_filter (option_map typed_filter_view (unboxed filter))) place) notes.old result notes.new }
+    ensures { Noted typed_resolve_view (TypedResolveOf late word (unboxed within) (typed_boxed_filter_view filter) place) notes.old result notes.new }
 {
     let note = notes.take();
     in_box(
@@ -129,7 +128,7 @@ pub fn resolve_call(
             late,
             word,
             within: out_of_box(within),
-            filter: out_of_box(filter),
+            filter,
             place,
             note,
         },
@@ -170,7 +169,7 @@ pub fn head(
     place: Place,
     notes: &mut Notes,
 ) -> Result<Box<TypedHead>, ListFault>
-    ensures { Noted typed_head_view (TypedHeadOf name.now (typed_optional_type (unboxed kind)) (typed_optional_accumulator (option_map typed_accumulator_view (unboxed accumulator))) place) notes.old result notes.new }
+    ensures { Noted typed_head_view (TypedHeadOf name.now (typed_optional_type (unboxed kind)) (typed_boxed_accumulator_view accumulator) place) notes.old result notes.new }
 {
     let name = name.copy(alloc)?;
     let note = notes.take();
@@ -179,7 +178,7 @@ pub fn head(
         TypedHead {
             name,
             kind: out_of_box(kind),
-            accumulator: out_of_box(accumulator),
+            accumulator,
             place,
             note,
         },

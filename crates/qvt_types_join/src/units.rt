@@ -124,7 +124,7 @@ pub fn unit(alloc: Global, of: &Unit, notes: &mut Notes) -> Result<Box<TypedUnit
         }
         Unit::Mapping(of) => {
             let mapping = mapping(alloc, of, notes)?;
-            in_box(alloc, TypedUnit::Mapping(Box::into_inner(mapping)))
+            in_box(alloc, TypedUnit::Mapping(mapping))
         }
     }
 }

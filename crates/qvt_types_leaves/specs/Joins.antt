@@ -7,9 +7,6 @@ use Rattle.qvt_tree_types.specs.Tree.{OptionalExpr, NoExpr, SomeExpr}
 use Rattle.qvt_tree_types.specs.View.{expr_view}
 use Rattle.qvt_tree_types.specs.declared.tree.Expr.{Expr}
 use Rattle.qvt_types_data.specs.declared.note.Note.{Note}
-use Rattle.qvt_types_nodes.specs.Tree.{TypedOptionalExpr, TypedNoExpr, TypedSomeExpr}
-use Rattle.qvt_types_nodes.specs.View.{typed_expr_view}
-use Rattle.qvt_types_nodes.specs.declared.tree.TypedExpr.{TypedExpr}
 
 abbrev pub Joins : {A B : Type 0} → (A → B) → B × List Note → Result A ListFault → List Note → Type 0
 Joins view meant (Ok a) new = meant ≡ (view a, new)
@@ -23,7 +20,3 @@ JoinsAsIs meant (Err e) new = Unit {0}
 abbrev pub boxed_view : Option (Box Expr Global) → OptionalExpr
 boxed_view None = NoExpr
 boxed_view (Some e) = SomeExpr (expr_view e.value)
-
-abbrev pub typed_boxed_view : Option (Box TypedExpr Global) → TypedOptionalExpr
-typed_boxed_view None = TypedNoExpr
-typed_boxed_view (Some e) = TypedSomeExpr (typed_expr_view e.value)

@@ -5,9 +5,9 @@ ghost use Rattle.std.specs.Prelude.{◌≡◌, map};
 ghost use Rattle.qvt_tree_types.specs.Tree.{CallExpr, CollExpr, ObjectExpr, NewExpr, PrefixExpr};
 ghost use Rattle.qvt_tree_types.specs.View.{expr_view, exprs_of, link_view, links_of, item_view, items_of, range_view, step_view, steps_of, head_view, accumulator_view, filter_view, map_view, resolve_view, optional_filter, optional_head, optional_accumulator, optional_range, block_view};
 ghost use Rattle.qvt_types_laws.specs.Join.{join_expr, join_exprs, join_link, join_links, join_item, join_items, join_range, join_step, join_steps, join_head, join_accumulator, join_filter, join_map, join_resolve, join_optional_expr};
-ghost use Rattle.qvt_types_leaves.specs.Joins.{Joins, boxed_view, typed_boxed_view};
+ghost use Rattle.qvt_types_leaves.specs.Joins.{Joins, boxed_view};
 ghost use Rattle.qvt_types_exprs.specs.Made.{held, unboxed};
-ghost use Rattle.qvt_types_nodes.specs.View.{typed_expr_view, typed_exprs_of, typed_link_view, typed_links_of, typed_item_view, typed_items_of, typed_range_view, typed_step_view, typed_steps_of, typed_head_view, typed_accumulator_view, typed_filter_view, typed_map_view, typed_resolve_view, typed_optional_filter, typed_optional_head, typed_optional_accumulator, typed_optional_range};
+ghost use Rattle.qvt_types_nodes.specs.View.{typed_expr_view, typed_exprs_of, typed_link_view, typed_links_of, typed_item_view, typed_items_of, typed_range_view, typed_step_view, typed_steps_of, typed_head_view, typed_accumulator_view, typed_filter_view, typed_map_view, typed_resolve_view, typed_optional_head, typed_optional_range, typed_boxed_view, typed_boxed_filter_view, typed_boxed_accumulator_view};
 
 use crate::stmts::stmts;
 use qvt_base::list_fault::ListFault;
@@ -307,7 +307,7 @@ pub fn optional_filter(
     of: &Option<Filter>,
     notes: &mut Notes,
 ) -> Result<Option<Box<TypedFilter>>, ListFault>
-    ensures { Joins (λ o. typed_optional_filter (option_map typed_filter_view (unboxed o))) (join_filter (optional_filter (option_map filter_view of.now)) notes.old) result notes.new }
+    ensures { Joins typed_boxed_filter_view (join_filter (optional_filter (option_map filter_view of.now)) notes.old) result notes.new }
 {
     match of {
         None => Ok(None),
@@ -348,7 +348,7 @@ pub fn optional_accumulator(
     of: &Option<Accumulator>,
     notes: &mut Notes,
 ) -> Result<Option<Box<TypedAccumulator>>, ListFault>
-    ensures { Joins (λ o. typed_optional_accumulator (option_map typed_accumulator_view (unboxed o))) (join_accumulator (optional_accumulator (option_map accumulator_view of.now)) notes.old) result notes.new }
+    ensures { Joins typed_boxed_accumulator_view (join_accumulator (optional_accumulator (option_map accumulator_view of.now)) notes.old) result notes.new }
 {
     match of {
         None => Ok(None),

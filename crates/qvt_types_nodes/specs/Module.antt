@@ -107,7 +107,7 @@ typed_unit_view (Class c) = TypedClassOf (typed_class_view c)
 typed_unit_view (Main body place note) = TypedMainOf (typed_block_view body) place note
 typed_unit_view (Helper h) = TypedHelperOf (typed_helper_view h)
 typed_unit_view (Constructor h) = TypedConstructorOf (typed_helper_view h)
-typed_unit_view (Mapping m) = TypedMappingOf (typed_mapping_view m)
+typed_unit_view (Mapping m) = TypedMappingOf (typed_mapping_view m.value)
 
 abbrev pub typed_module_view : TypedModule → TypedModuleTerm
 typed_module_view m = record { model_types = m.model_types; name = m.name; params = m.params; units = map typed_unit_view m.units; end = m.end }

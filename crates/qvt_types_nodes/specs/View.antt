@@ -65,17 +65,9 @@ abbrev pub typed_optional_range : Option TypedRangeTerm → TypedRangeTerm
 typed_optional_range None = TypedNoRange
 typed_optional_range (Some r) = r
 
-abbrev pub typed_optional_filter : Option TypedFilterTerm → TypedFilterTerm
-typed_optional_filter None = TypedNoFilter
-typed_optional_filter (Some f) = f
-
 abbrev pub typed_optional_head : Option TypedHeadTerm → TypedHeadTerm
 typed_optional_head None = TypedNoHead
 typed_optional_head (Some h) = h
-
-abbrev pub typed_optional_accumulator : Option TypedAccumulatorTerm → TypedAccumulatorTerm
-typed_optional_accumulator None = TypedNoAccumulator
-typed_optional_accumulator (Some a) = a
 
 abbrev pub typed_optional_else : Option (List TypedStmtTerm) → TypedElseTerm
 typed_optional_else None = TypedNoElse
@@ -84,6 +76,14 @@ typed_optional_else (Some ss) = TypedElseOf (typed_stmts_of ss)
 abbrev pub typed_optional_type : Option TypedTypeTree → Option TypedTypeTerm
 typed_optional_type None = None
 typed_optional_type (Some t) = Some (typed_type_view t)
+
+abbrev pub typed_boxed_filter : Option (Box TypedFilterTerm Global) → TypedFilterTerm
+typed_boxed_filter None = TypedNoFilter
+typed_boxed_filter (Some f) = f.value
+
+abbrev pub typed_boxed_accumulator : Option (Box TypedAccumulatorTerm Global) → TypedAccumulatorTerm
+typed_boxed_accumulator None = TypedNoAccumulator
+typed_boxed_accumulator (Some a) = a.value
 
 abbrev pub typed_optional_boxed : Option (Box TypedExprTerm Global) → TypedOptionalExpr
 typed_optional_boxed None = TypedNoExpr
@@ -118,12 +118,12 @@ typed_step_step (TypedStep-F.ArrowResolve call) = TypedArrowResolveStep call
 
 abbrev pub typed_stmt_step : TypedStmt-F TypedExprTerm TypedStepTerm TypedStmtTerm TypedTargetTerm TypedAccumulatorTerm TypedArmTerm TypedFilterTerm TypedHeadTerm TypedItemTerm TypedLinkTerm TypedMapTerm TypedRangeTerm TypedResolveTerm → TypedStmtTerm
 typed_stmt_step (TypedStmt-F.Var name kind value place note) = TypedVarStmt name (typed_optional_type kind) (typed_optional_expr value) place note
-typed_stmt_step (TypedStmt-F.Assign target adds value place note) = TypedAssignStmt target adds value place note
+typed_stmt_step (TypedStmt-F.Assign target adds value place note) = TypedAssignStmt target.value adds value place note
 typed_stmt_step (TypedStmt-F.Return value place note) = TypedReturnStmt (typed_optional_expr value) place note
 typed_stmt_step (TypedStmt-F.Value value place note) = TypedValueStmt value place note
 typed_stmt_step (TypedStmt-F.«TypedStmt::If» condition body arms otherwise place note) = TypedIfStmt condition (typed_stmts_of body) (typed_arms_of arms) (typed_optional_else otherwise) place note
 typed_stmt_step (TypedStmt-F.While condition body place note) = TypedWhileStmt condition (typed_stmts_of body) place note
-typed_stmt_step (TypedStmt-F.ForEach source name kind condition body place note) = TypedForEachStmt source name (typed_optional_type kind) (typed_optional_expr condition) (typed_stmts_of body) place note
+typed_stmt_step (TypedStmt-F.ForEach source name kind condition body place note) = TypedForEachStmt source name (typed_optional_type kind) (typed_optional_boxed condition) (typed_stmts_of body) place note
 
 abbrev pub typed_target_step : TypedTarget-F TypedExprTerm TypedStepTerm TypedStmtTerm TypedTargetTerm TypedAccumulatorTerm TypedArmTerm TypedFilterTerm TypedHeadTerm TypedItemTerm TypedLinkTerm TypedMapTerm TypedRangeTerm TypedResolveTerm → TypedTargetTerm
 typed_target_step (TypedTarget-F.Bare name place note) = TypedBareTarget name place note
@@ -140,7 +140,7 @@ abbrev pub typed_filter_step : TypedFilter-F TypedExprTerm TypedStepTerm TypedSt
 typed_filter_step f = TypedFilterOf f.name (typed_type_view f.kind) (typed_optional_boxed f.condition) f.place f.note
 
 abbrev pub typed_head_step : TypedHead-F TypedExprTerm TypedStepTerm TypedStmtTerm TypedTargetTerm TypedAccumulatorTerm TypedArmTerm TypedFilterTerm TypedHeadTerm TypedItemTerm TypedLinkTerm TypedMapTerm TypedRangeTerm TypedResolveTerm → TypedHeadTerm
-typed_head_step h = TypedHeadOf h.name (typed_optional_type h.kind) (typed_optional_accumulator h.accumulator) h.place h.note
+typed_head_step h = TypedHeadOf h.name (typed_optional_type h.kind) (typed_boxed_accumulator h.accumulator) h.place h.note
 
 abbrev pub typed_item_step : TypedItem-F TypedExprTerm TypedStepTerm TypedStmtTerm TypedTargetTerm TypedAccumulatorTerm TypedArmTerm TypedFilterTerm TypedHeadTerm TypedItemTerm TypedLinkTerm TypedMapTerm TypedRangeTerm TypedResolveTerm → TypedItemTerm
 typed_item_step i = TypedItemOf i.first (typed_optional_range i.last) i.place i.note
@@ -155,7 +155,7 @@ abbrev pub typed_range_step : TypedRangeEnd-F TypedExprTerm TypedStepTerm TypedS
 typed_range_step r = TypedRangeTo r.last r.place r.note
 
 abbrev pub typed_resolve_step : TypedResolveCall-F TypedExprTerm TypedStepTerm TypedStmtTerm TypedTargetTerm TypedAccumulatorTerm TypedArmTerm TypedFilterTerm TypedHeadTerm TypedItemTerm TypedLinkTerm TypedMapTerm TypedRangeTerm TypedResolveTerm → TypedResolveTerm
-typed_resolve_step r = TypedResolveOf r.late r.word r.within (typed_optional_filter r.filter) r.place r.note
+typed_resolve_step r = TypedResolveOf r.late r.word r.within (typed_boxed_filter r.filter) r.place r.note
 
 abbrev pub typed_expr_view : TypedExpr → TypedExprTerm
 typed_expr_view = fold-TypedExpr TypedExprTerm TypedStepTerm TypedStmtTerm TypedTargetTerm TypedAccumulatorTerm TypedArmTerm TypedFilterTerm TypedHeadTerm TypedItemTerm TypedLinkTerm TypedMapTerm TypedRangeTerm TypedResolveTerm typed_expr_step typed_step_step typed_stmt_step typed_target_step typed_accumulator_step typed_arm_step typed_filter_step typed_head_step typed_item_step typed_link_step typed_map_step typed_range_step typed_resolve_step
@@ -199,3 +199,16 @@ typed_resolve_view = fold-TypedResolveCall TypedExprTerm TypedStepTerm TypedStmt
 -- a block's statements
 abbrev pub typed_block_view : List TypedStmt → TypedStmtTerms
 typed_block_view ss = typed_stmts_of (map typed_stmt_view ss)
+
+-- what stands in a box that may be missing
+abbrev pub typed_boxed_view : Option (Box TypedExpr Global) → TypedOptionalExpr
+typed_boxed_view None = TypedNoExpr
+typed_boxed_view (Some e) = TypedSomeExpr (typed_expr_view e.value)
+
+abbrev pub typed_boxed_filter_view : Option (Box TypedFilter Global) → TypedFilterTerm
+typed_boxed_filter_view None = TypedNoFilter
+typed_boxed_filter_view (Some f) = typed_filter_view f.value
+
+abbrev pub typed_boxed_accumulator_view : Option (Box TypedAccumulator Global) → TypedAccumulatorTerm
+typed_boxed_accumulator_view None = TypedNoAccumulator
+typed_boxed_accumulator_view (Some a) = typed_accumulator_view a.value

@@ -63,7 +63,7 @@ pub enum TypedUnit {
     Helper(TypedHelper),
     /// A constructor: `pure` is false, and there is no answer.
     Constructor(TypedHelper),
-    Mapping(TypedMapping),
+    Mapping(Box<TypedMapping>),
 }
 
 impl Drop for TypedUnit {

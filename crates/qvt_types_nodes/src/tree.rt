@@ -32,7 +32,7 @@ pub enum TypedStmt {
     },
     /// `adds` tells a `+=`.
     Assign {
-        target: TypedTarget,
+        target: Box<TypedTarget>,
         adds: bool,
         value: TypedExpr,
         place: Place,
@@ -67,7 +67,7 @@ pub enum TypedStmt {
         source: TypedExpr,
         name: Text,
         kind: Option<TypedTypeTree>,
-        condition: Option<TypedExpr>,
+        condition: Option<Box<TypedExpr>>,
         body: TypedStmts,
         place: Place,
         note: Note,
@@ -361,7 +361,7 @@ pub struct TypedResolveCall {
     pub late: bool,
     pub word: ResolveWord,
     pub within: Option<TypedPathTree>,
-    pub filter: Option<TypedFilter>,
+    pub filter: Option<Box<TypedFilter>>,
     pub place: Place,
     pub note: Note,
 }
@@ -383,7 +383,7 @@ pub struct TypedFilter {
 pub struct TypedHead {
     pub name: Text,
     pub kind: Option<TypedTypeTree>,
-    pub accumulator: Option<TypedAccumulator>,
+    pub accumulator: Option<Box<TypedAccumulator>>,
     pub place: Place,
     pub note: Note,
 }

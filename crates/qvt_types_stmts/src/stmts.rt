@@ -110,7 +110,7 @@ pub fn assignment(
     in_box(
         alloc,
         TypedStmt::Assign {
-            target: Box::into_inner(target),
+            target,
             adds,
             value: Box::into_inner(value),
             place,
@@ -245,7 +245,7 @@ pub fn for_each(
             source: Box::into_inner(source),
             name,
             kind: out_of_box(kind),
-            condition: out_of_box(condition),
+            condition,
             body,
             place,
             note,

@@ -191,6 +191,14 @@ impl Told {
     }
 
     #[cycle(told)]
+    fn boxed_expr(&mut self, expr: &Option<Box<TypedExpr>>) -> Result<(), ListFault> {
+        match expr {
+            Some(expr) => self.expr(expr),
+            None => Ok(()),
+        }
+    }
+
+    #[cycle(told)]
     fn optional_expr(&mut self, expr: &Option<TypedExpr>) -> Result<(), ListFault> {
         match expr {
             Some(expr) => self.expr(expr),
@@ -243,10 +251,7 @@ impl Told {
     fn filter(&mut self, filter: &TypedFilter) -> Result<(), ListFault> {
         self.node("Filter", &filter.note)?;
         self.kind(&filter.kind)?;
-        match &filter.condition {
-            Some(condition) => self.expr(condition),
-            None => Ok(()),
-        }
+        self.boxed_expr(&filter.condition)
     }
 
     #[cycle(told)]
@@ -399,7 +404,7 @@ impl Told {
                 self.node("forEach", note)?;
                 self.expr(source)?;
                 self.optional_kind(kind)?;
-                self.optional_expr(condition)?;
+                self.boxed_expr(condition)?;
                 self.stmts(body.as_slice())
             }
         }
