@@ -1,5 +1,5 @@
 -- What the head of an iterator has.
-use Rattle.std.proofs.Common.{◌≡◌, ◌∙◌, ℕ, ap, List, Option, Some, None, Box, Global, arith}
+use Rattle.std.proofs.Common.{◌≡◌, ◌∙◌, ℕ, sym, ap, List, Option, Some, None, Box, Global, arith}
 use Rattle.qvt_base.specs.declared.numbers.Place.{Place}
 use Rattle.qvt_value.specs.declared.value.Value.{Value}
 use Rattle.qvt_run_data.specs.declared.late.LateWrite.{LateWrite}
@@ -39,13 +39,15 @@ head_without x head h is none =
     ap (λ (k : Option TypedHead). (head_of x k).accumulator) is ∙ of_head x h
     ∙ ap (λ (a : Option (Box TypedAccumulator Global)). first_of x (view.typed_boxed_accumulator_view a)) none
 
-pub head_with : (x : Scene) (head : Option TypedHead) (h : TypedHead) (a : Box TypedAccumulator Global) → head ≡ Some h → (out-TypedHead h).accumulator ≡ Some a →
-    (head_of x head).accumulator ≡ Some ((out-TypedAccumulator a.value).name, expr_of x (out-TypedAccumulator a.value).first)
+pub head_with : (x : Scene) (head : Option TypedHead) (h : TypedHead) (a : Box TypedAccumulator Global) (one other : TypedAccumulator) → head ≡ Some h → (out-TypedHead h).accumulator ≡ Some a → one ≡ a.value → other ≡ a.value →
+    (head_of x head).accumulator ≡ Some ((out-TypedAccumulator one).name, expr_of x (out-TypedAccumulator other).first)
 unfolding expr_of phrase.accumulator
-head_with x head h a is some =
+head_with x head h a one other is some named begun =
     ap (λ (k : Option TypedHead). (head_of x k).accumulator) is ∙ of_head x h
     ∙ ap (λ (b : Option (Box TypedAccumulator Global)). first_of x (view.typed_boxed_accumulator_view b)) some
     ∙ ap (first_of x) (accumulator_view_is a.value)
+    ∙ sym (ap (λ (b : TypedAccumulator). Some ((out-TypedAccumulator b).name, expr_of x (out-TypedAccumulator a.value).first)) named)
+    ∙ sym (ap (λ (b : TypedAccumulator). Some ((out-TypedAccumulator one).name, expr_of x (out-TypedAccumulator b).first)) begun)
 
 -- `iterate` without an accumulator
 pub iterate_without : (x : Scene) (head : Option TypedHead) (p : Does LateWrite Value) (at : Place) (v : Value) → (head_of x head).accumulator ≡ None →

@@ -28,6 +28,6 @@ returns-in-Some-accumulator g c =
     let x : Scene = (c.args.x.now, g.C.UnitCalls.means c.args.units.now) in
     let named : (head_of x c.args.head.now).name ≡ option_copied c.name_in.result = name_here x c.args.head.now ∙ sym c.name_in.ensures in
     subst (λ (p : Does LateWrite Value). Runs (p (seen c.args.state.now)) c.accumulated.result c.accumulated.new.state)
-    (sym (iterate_with x c.args.head.now (expr_of x c.args.body.now) c.args.place c.args.value c.in-Some-accumulator.accumulator.value.name (expr_of x c.in-Some-accumulator.accumulator.value.first) (option_copied c.name_in.result)
-    (head_with x c.args.head.now c.in-Some.head c.in-Some-accumulator.accumulator c.in-Some.is c.in-Some-accumulator.is) named))
+    (sym (iterate_with x c.args.head.now (expr_of x c.args.body.now) c.args.place c.args.value c.deref.result.now.name (expr_of x c.deref-in-Some-accumulator.result.now.first) (option_copied c.name_in.result)
+    (head_with x c.args.head.now c.in-Some.head c.in-Some-accumulator.accumulator c.deref.result.now c.deref-in-Some-accumulator.result.now c.in-Some.is c.in-Some-accumulator.is c.deref.ensures c.deref-in-Some-accumulator.ensures) named))
     c.accumulated.ensures
