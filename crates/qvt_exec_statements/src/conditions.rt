@@ -5,7 +5,7 @@ ghost use Rattle.qvt_exec_resolves.specs.Nodes as nodes;
 ghost use Rattle.qvt_types_nodes.specs.View.{typed_arm_view, typed_expr_view};
 ghost use Rattle.qvt_exec_state.specs.Runs.{Runs, seen};
 ghost use Rattle.qvt_exec_phrases.specs.Means.{arms_of, block_of, expr_of, guarded_of, holds_of, otherwise_of};
-ghost use Rattle.qvt_exec_statements.specs.Arms.{arm_turn};
+ghost use Rattle.qvt_exec_statements.specs.Arms.{arm_turn, if_true};
 
 use qvt_exec_leaves::nodes::place_of;
 use qvt_exec_moves::values::truth;
@@ -49,8 +49,26 @@ pub(crate) fn turn<C: Nested>(
     Ok(true)
 }
 
+/// A block where a condition is true, and nothing where it is not.
+#[inline(always)]
+#[tactic(auto, unfolding(qvt_run_rules::specs::Statements::branch))]
+fn if_true<C: Nested>(
+    x: &Engine<'_>,
+    units: &ReadyUnits<C>,
+    condition: &TypedExpr,
+    body: &TypedStmts,
+    state: &mut RunState<'_>,
+) -> Result<(), Halt>
+    ensures { Runs (if_true (x.now, C.means units.now) condition.now body.now (seen state.old)) result state.new }
+{
+    if holds(x, units, condition, state)? {
+        return block(x, units, body, state);
+    }
+    Ok(())
+}
+
 /// The body of a `forEach` where its condition is true.
-#[tactic(auto, unfolding(qvt_exec_phrases::specs::Means::guarded_of, qvt_exec_phrases::specs::Means::expr_of, qvt_meaning::specs::Phrases::guarded, qvt_run_rules::specs::Statements::branch))]
+#[tactic(auto, unfolding(qvt_exec_phrases::specs::Means::guarded_of, qvt_exec_phrases::specs::Means::expr_of, qvt_meaning::specs::Phrases::guarded))]
 pub(crate) fn guarded<C: Nested>(
     x: &Engine<'_>,
     units: &ReadyUnits<C>,
@@ -62,12 +80,7 @@ pub(crate) fn guarded<C: Nested>(
 {
     match condition {
         None => block(x, units, body, state),
-        Some(condition) => {
-            if holds(x, units, condition, state)? {
-                return block(x, units, body, state);
-            }
-            Ok(())
-        }
+        Some(condition) => if_true(x, units, condition, body, state),
     }
 }
 
