@@ -1,4 +1,4 @@
-ghost use Rattle.std.specs.Prelude.{◌≡◌, ◌<◌, [], Some};
+ghost use Rattle.std.specs.Prelude.{◌≡◌, ◌<◌, []};
 ghost use Rattle.qvt_base.specs.Outside.{SinkCause, IsSent};
 
 use crate::lists::{Bytes, CallList};

@@ -1,6 +1,6 @@
 //! The real outside: the working folder and standard output. They tell nothing of what they hold;
 //! the calls of the system in them are the trusted edge.
-ghost use Rattle.std.specs.Prelude.{◌≡◌, None, ◌≤◌, length};
+ghost use Rattle.std.specs.Prelude.{◌≡◌};
 ghost use Rattle.qvt_base.specs.Outside.{IsWithin, ReadsRest, IsPart, part_of};
 ghost use Rattle.std.specs.Io.KnownBytes.{Appends};
 

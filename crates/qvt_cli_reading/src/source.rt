@@ -1,6 +1,6 @@
 //! The text of a transformation, from a file's bytes to its tree.
 
-ghost use Rattle.std.specs.Prelude.{◌≡◌, ◌≤◌, ◌+◌, ◌<◌, ◌^◌, length};
+ghost use Rattle.std.specs.Prelude.{◌≤◌, ◌+◌, ◌<◌, ◌^◌, length};
 ghost use Rattle.qvt_tree_types.specs.Module.{module_view};
 ghost use Rattle.qvt_parsed.specs.Parsed.{parsed};
 ghost use Rattle.qvt_work.specs.Source.{tree_in};

@@ -1,5 +1,5 @@
 -- The features that ask for an item, since their lower bound is above 0 (EMOF 12.4): an empty slot breaks the bounds of these alone.
-use Rattle.std.specs.Prelude.{◌≡◌, ℕ, ◌==◌, Bool, nat_lt, nat_eq, if◌then◌else◌, List, [], ◌∷◌, Option, Some, None, IsTrue, ⊤}
+use Rattle.std.specs.Prelude.{ℕ, ◌==◌, Bool, nat_lt, nat_eq, if◌then◌else◌, List, [], ◌∷◌, Option, Some, None, IsTrue, ⊤}
 use Rattle.std.specs.List.{list_any}
 use Rattle.indexmap.specs.IndexMap.{IndexMap, get}
 use Rattle.qvt_base.specs.declared.numbers.FeatureNo.{FeatureNo}

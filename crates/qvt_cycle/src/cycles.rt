@@ -1,6 +1,6 @@
 //! Which numbers lead back to themselves.
 
-ghost use Rattle.std.specs.Prelude.{◌≡◌, ◌<◌, ◌==◌, false, length, IfOk, IsTrue, slice_index_or};
+ghost use Rattle.std.specs.Prelude.{◌≡◌, ◌<◌, ◌==◌, false, length, IfOk, IsTrue};
 ghost use Rattle.qvt_cycle.specs.Successors.{among, is_on_cycle, leads};
 ghost use Rattle.qvt_cycle.specs.Search.{component_of, are_below, fall, is_alone};
 

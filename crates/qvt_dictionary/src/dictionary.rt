@@ -1,6 +1,6 @@
 //! What a model is read by: metamodels, with the literals of the model's own looked up by hash.
 
-ghost use Rattle.std.specs.Prelude.{◌≡◌, [], ◌<◌, length, slice_index_or, IfOk};
+ghost use Rattle.std.specs.Prelude.{◌≡◌, [], ◌<◌, IfOk};
 ghost use Rattle.qvt_metas.specs.Metamodels.{Metamodels};
 ghost use Rattle.qvt_metas.specs.Named.{enumeration_at, literal_named};
 ghost use Rattle.qvt_dictionary.specs.Literals.{AreLiterals, EachIsFirst};

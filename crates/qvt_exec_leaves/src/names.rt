@@ -1,6 +1,5 @@
 //! Literals, names, and properties of values.
 
-ghost use Rattle.std.specs.Prelude.{◌≡◌};
 ghost use Rattle.qvt_value.specs.declared.value.Value.TheVariants as value;
 ghost use Rattle.qvt_run_rules.specs.Cost.{spend_of};
 ghost use Rattle.qvt_run_rules.specs.Expressions as rule;

@@ -1,7 +1,7 @@
 //! What a value puts into a slot.
 
 ghost use Rattle.std.specs.Prelude.{◌≡◌, IfOk, filter, not};
-ghost use Rattle.qvt_run_rules.specs.Store.{many_items, one_item, op_of};
+ghost use Rattle.qvt_run_rules.specs.Store.{one_item, op_of};
 ghost use Rattle.qvt_ocl_words.specs.Lists.{is_null};
 
 use qvt_base::copied::Copied;

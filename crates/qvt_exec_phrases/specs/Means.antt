@@ -1,13 +1,10 @@
 -- What the phrases of a program mean.
-use Rattle.std.specs.Prelude.{◌≡◌, ℕ, Bool, true, false, List, [], ◌∷◌, ◌++◌, map, option_map, Option, Some, None, Result, Ok, Err, Box}
+use Rattle.std.specs.Prelude.{ℕ, Bool, true, false, List, [], ◌∷◌, ◌++◌, map, option_map, Option, Some, None, Box}
 use Rattle.std.specs.declared.alloc.Global.{Global}
 use Rattle.qvt_base.specs.declared.numbers.Place.{Place}
-use Rattle.qvt_value.specs.declared.value.Kind.{Kind}
 use Rattle.qvt_value.specs.declared.value.Value.{Value}
-use Rattle.qvt_run_data.specs.declared.exit.Halt.{Halt}
-use Rattle.qvt_run_data.specs.declared.exit.Halt.TheVariants.{Exits, NoMemory}
 use Rattle.qvt_run_data.specs.declared.late.LateWrite.{LateWrite}
-use Rattle.qvt_run_rules.specs.State.{State, Done, Does, ◌>>=◌, ◌>>◌, pure, misfit, turn_to}
+use Rattle.qvt_run_rules.specs.State.{Does, ◌>>=◌, ◌>>◌, turn_to}
 use Rattle.qvt_run_rules.specs.Typed.{valid}
 use Rattle.qvt_run_rules.specs.Expressions as rule
 use Rattle.qvt_run_rules.specs.Statements as statement
@@ -24,8 +21,6 @@ use Rattle.qvt_types_nodes.specs.declared.tree.TypedStmt.{TypedStmt}
 use Rattle.qvt_types_nodes.specs.declared.tree.TypedTarget.{TypedTarget}
 use Rattle.qvt_types_nodes.specs.View.{typed_arm_view, typed_arms_of, typed_boxed_view, typed_expr_view, typed_exprs_of, typed_item_view, typed_items_of, typed_link_view, typed_links_of, typed_map_view, typed_optional_else, typed_optional_expr, typed_step_view, typed_steps_of, typed_stmt_view, typed_stmts_of, typed_target_view, typed_head_view, typed_optional_head}
 use Rattle.qvt_program_units.specs.Accepts.{ProgramTerm}
-use Rattle.qvt_exec_state.specs.Runs.{seen}
-use Rattle.qvt_exec_state.specs.declared.state.RunState.{RunState}
 use Rattle.qvt_program_units.specs.Nodes.{late_of, optional_place, place_of, type_of}
 use Rattle.qvt_program_units.specs.Phrases.{arm, arms, each_type, expr, exprs, guarded, head, item, items, late_source, link, links, map_alone, map_step, optional, otherwise, return_, step, steps, stmt, stmts, target, variable_type}
 use Rattle.qvt_run_rules.specs.Cost.{spend_of}

@@ -1,7 +1,7 @@
 //! Properties of objects (OCL 2.4, 7.5.3).
 
 ghost use Rattle.std.specs.Prelude.{◌≡◌, IfOk};
-ghost use Rattle.qvt_run_rules.specs.Store.{feature_kind, flags_kind, property, single, slot_value};
+ghost use Rattle.qvt_run_rules.specs.Store.{feature_kind, property, single, slot_value};
 
 use crate::collections::built;
 use qvt_base::copied::Copied;

@@ -1,6 +1,6 @@
 //! Resolves as they are written (QVT 1.3, 8.1.10 and 8.2.1.22).
 
-ghost use Rattle.std.specs.Prelude.{◌≡◌, option_map, IfOk};
+ghost use Rattle.std.specs.Prelude.{◌≡◌, IfOk};
 ghost use Rattle.std.specs.Option.{option_copied};
 ghost use Rattle.qvt_types_nodes.specs.View.{typed_boxed_filter_view, typed_resolve_view, typed_type_view};
 ghost use Rattle.qvt_exec_types.specs.Program.{program_view};

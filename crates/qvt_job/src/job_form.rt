@@ -1,4 +1,3 @@
-ghost use Rattle.std.specs.Prelude.{◌≡◌};
 ghost use Rattle.qvt_job.specs.Job.{job_model_form, job_form};
 
 use qvt_base::list_fault::ListFault;

@@ -1,4 +1,4 @@
-ghost use Rattle.std.specs.Prelude.{◌≡◌, IfOk, map, [], option_map, is_some, nat_lt};
+ghost use Rattle.std.specs.Prelude.{◌≡◌, IfOk, map, [], is_some, nat_lt};
 ghost use Rattle.std.specs.List.{list_any};
 ghost use Rattle.std.specs.Option.{option_copied};
 ghost use Rattle.std.specs.Str.{bytes_eq};

@@ -1,6 +1,5 @@
 ghost use Rattle.std.specs.Prelude.{◌≡◌, None, Some, [], if◌then◌else◌};
 ghost use Rattle.qvt_base.specs.Names.{is_name, is_file};
-ghost use Rattle.serde_json.specs.View.{view};
 ghost use Rattle.qvt_json.specs.Shape.{leaf};
 ghost use Rattle.qvt_json.specs.Leaves.{is_id, is_json_text, is_text_of, is_flag, is_json_object, is_count};
 

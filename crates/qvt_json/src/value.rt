@@ -1,8 +1,8 @@
-ghost use Rattle.std.specs.Prelude.{◌≡◌, ◌∷◌, [], List, map, IfOk, option_map, unwrap_or};
+ghost use Rattle.std.specs.Prelude.{◌≡◌, [], List, map, IfOk, option_map, unwrap_or};
 ghost use Rattle.std.specs.List.{list_any};
 ghost use Rattle.std.specs.Str.{bytes_eq};
 ghost use Rattle.serde_json.specs.View.{view, items_view, members_view};
-ghost use Rattle.qvt_json.specs.Json.{json, text_at, as_count, count_under, flag_at, items_at, members_at, text_or, text_of, texts_at, map_items, has_only, keys_among};
+ghost use Rattle.qvt_json.specs.Json.{json, text_at, count_under, flag_at, items_at, members_at, text_or, text_of, texts_at, map_items, has_only};
 
 use qvt_base::list_fault::ListFault;
 use qvt_base::lists::NameList;

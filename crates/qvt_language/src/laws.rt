@@ -1,4 +1,4 @@
-ghost use Rattle.std.specs.Prelude.{◌≡◌, ◌≤◌, List, length, ℕ, suc, Bool, true, false, Ok, Err};
+ghost use Rattle.std.specs.Prelude.{◌≡◌, ◌≤◌, List, length, ℕ, suc, true, false, Ok, Err};
 ghost use Rattle.qvt_grammar.specs.Reader.{At};
 ghost use Rattle.qvt_tree_types.specs.Module.{ModuleTerm};
 ghost use Rattle.qvt_language.specs.Tokens.{Tok, is_nil};

@@ -2,7 +2,7 @@
 use Rattle.std.specs.Prelude.{◌≡◌, ℕ, zero, suc, ◌-◌, List, [], ◌∷◌, ◌++◌, length, take, Result, Ok, Err}
 use Rattle.std.specs.Str.{chars}
 use Rattle.qvt_base.specs.declared.numbers.Place.{Place}
-use Rattle.qvt_lexer.specs.Division.{Position, Written, TokenData, token_of, place_after, ReadsTokens, IsFaulty, start_at}
+use Rattle.qvt_lexer.specs.Division.{Position, TokenData, token_of, place_after, ReadsTokens, IsFaulty, start_at}
 use Rattle.qvt_lexer.specs.Scan.{Scan, scan_at}
 use Rattle.qvt_lexer.specs.declared.token.LexFault.{LexFault}
 

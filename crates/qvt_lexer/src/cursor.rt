@@ -1,6 +1,6 @@
-ghost use Rattle.std.specs.Prelude.{◌≡◌, ◌≢◌, ℕ, List, ◌++◌, ◌+◌, ◌<◌, ◌≤◌, ◌^◌, length, IfOk, IfErr};
+ghost use Rattle.std.specs.Prelude.{◌≡◌, ℕ, List, ◌++◌, ◌+◌, ◌<◌, ◌≤◌, ◌^◌, length, IfOk, IfErr};
 ghost use Rattle.std.specs.Char.{len_utf8};
-ghost use Rattle.std.specs.Str.{chars, IsUtf8};
+ghost use Rattle.std.specs.Str.{chars};
 ghost use Rattle.qvt_lexer.specs.Division as division;
 ghost use Rattle.qvt_lexer.specs.Cursors.{position_of, Spans};
 ghost use Rattle.qvt_lexer.specs.Rooms.{HasPlaceRoom};

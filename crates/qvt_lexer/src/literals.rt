@@ -1,4 +1,4 @@
-ghost use Rattle.std.specs.Prelude.{◌≡◌, ℕ, suc, ◌∷◌, [], ◌+◌, ◌*◌, ◌<◌, true, nat_le, length, Option, Some, None, MatchOption, IfSome};
+ghost use Rattle.std.specs.Prelude.{◌≡◌, ℕ, suc, [], ◌+◌, ◌*◌, ◌<◌, true, nat_le, length, Option, Some, None, MatchOption, IfSome};
 ghost use Rattle.std.specs.Str.{chars, IsUtf8};
 ghost use Rattle.qvt_lexer.specs.Characters as class;
 ghost use Rattle.qvt_lexer.specs.Literals as literal;

@@ -1,7 +1,6 @@
 //! A metamodel's data as numbered data.
 
-ghost use Rattle.std.specs.Prelude.{◌≡◌, ◌+◌, ◌<◌, ◌≤◌, ◌^◌, ℕ, List, length, map, take, slice_index, IfOk, OnOk, ◌++◌, option_map, position, IfSome, IsTrue, [], None, ◌∷◌};
-ghost use Rattle.std.specs.Str.{bytes_eq};
+ghost use Rattle.std.specs.Prelude.{◌≡◌, ◌+◌, ◌<◌, ◌≤◌, ◌^◌, ℕ, List, length, map, IfOk, OnOk, ◌++◌, option_map, position, [], None, ◌∷◌};
 ghost use Rattle.qvt_metamodel.specs.MetaData.{feature_names};
 ghost use Rattle.qvt_meta.specs.Places.{ArePlaces, AreOwnNames, firsts_of};
 ghost use Rattle.qvt_json.specs.Repeated.{repeated};

@@ -1,4 +1,4 @@
-ghost use Rattle.std.specs.Prelude.{◌≡◌, ◌≢◌, ◌<◌, ◌^◌, [], None, Some, length, IfOk, IfErr, OnOk, IsTrue, option_map};
+ghost use Rattle.std.specs.Prelude.{◌≡◌, ◌≢◌, ◌<◌, [], None, Some, length, IfOk};
 ghost use Rattle.qvt_json.specs.Steps.{GivesStated};
 ghost use Rattle.qvt_metas.specs.Added.{declared_at, first_begin, names_of, class_infos};
 ghost use Rattle.qvt_metamodel.specs.Checked.{Passes};

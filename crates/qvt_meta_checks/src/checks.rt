@@ -1,12 +1,11 @@
 //! The checks of a metamodel by its names.
 
-ghost use Rattle.std.specs.Prelude.{Bool, ◌≡◌, ◌∷◌, ◌++◌, [], None, List, ℕ, map, is_some, option_map, IfOk};
-ghost use Rattle.std.specs.List.{list_any};
+ghost use Rattle.std.specs.Prelude.{Bool, ◌≡◌, [], None, List, ℕ, map, option_map, IfOk};
 ghost use Rattle.std.specs.Option.{option_copied};
 ghost use Rattle.qvt_json.specs.Steps.{or_next};
 ghost use Rattle.qvt_metamodel.specs.MetaData.{class_names};
 ghost use Rattle.qvt_json.specs.Repeated.{repeated};
-ghost use Rattle.qvt_metamodel.specs.Names.{primitive_names, is_among};
+ghost use Rattle.qvt_metamodel.specs.Names.{primitive_names};
 ghost use Rattle.qvt_metamodel.specs.Checks.{same_enum, same_name, unknown, unknown_in, unknown_type, type_names, first_in, is_below, bad_bounds, failing_feature};
 ghost use Rattle.qvt_metamodel.specs.declared.declared.DeclaredClass.{DeclaredClass};
 ghost use Rattle.qvt_metamodel.specs.declared.declared.DeclaredFeature.{DeclaredFeature};

@@ -52,7 +52,7 @@ impl Model for EndSet {
 
 impl EndSet {
     ghost use Rattle.qvt_meta_checks.specs.declared.ends.OppositeEnd.{OppositeEnd};
-    ghost use Rattle.qvt_meta_checks.specs.Ends.{same_end, is_end, JoinedEnd, AreEnds};
+    ghost use Rattle.qvt_meta_checks.specs.Ends.{same_end, JoinedEnd, AreEnds};
 
     /// None yet. It takes no memory.
     fn new(alloc: Global) -> EndSet

@@ -1,8 +1,8 @@
-ghost use Rattle.std.specs.Prelude.{◌≡◌, ℕ, None, List, [], map, IfOk, OnErr, OnOk, MatchResult, codes, ◌∷◌, ◌++◌, false, ◌≤◌, length};
+ghost use Rattle.std.specs.Prelude.{◌≡◌, ℕ, None, List, [], map, IfOk, ◌++◌, ◌≤◌, length};
 ghost use Rattle.qvt_metamodel.specs.Added.{place_in};
 ghost use Rattle.qvt_metamodel.specs.Checks.{same_name, type_names};
 ghost use Rattle.qvt_json.specs.Repeated.{repeated};
-ghost use Rattle.qvt_metamodel.specs.Names.{primitive_names, is_among};
+ghost use Rattle.qvt_metamodel.specs.Names.{primitive_names};
 
 use crate::name_set::NameSet;
 use qvt_base::copied::Copied;

@@ -4,8 +4,7 @@ ghost use Rattle.std.specs.Prelude.{◌≡◌, ◌||◌, List, Some, not, is_som
 ghost use Rattle.std.specs.List.{list_any};
 ghost use Rattle.std.specs.Str.{bytes_eq};
 ghost use Rattle.qvt_metamodel.specs.MetaData.{class_names};
-ghost use Rattle.qvt_metamodel.specs.Names.{is_among};
-ghost use Rattle.qvt_metamodel.specs.Checks.{is_given_name, is_one_at_most, is_mutual, type_features, declares_link, is_contained, has_no_class, may_repeat, is_undeclared, is_own_opposite, are_both_containments, has_many_containers, is_bad_opposite, bad_opposite};
+ghost use Rattle.qvt_metamodel.specs.Checks.{is_one_at_most, type_features, is_contained, has_no_class, may_repeat, is_undeclared, is_own_opposite, are_both_containments, has_many_containers, is_bad_opposite, bad_opposite};
 ghost use Rattle.qvt_meta_checks.specs.Ends.{is_end, same_end, no_ends, may_not_be_contained, AreAllEnds};
 
 use crate::checks::{FeatureTest, first_fault};

@@ -1,9 +1,7 @@
 //! The conditions of classes that are declared beside metamodels, asked at run time.
 
-ghost use Rattle.std.specs.Prelude.{◌≡◌, ◌<◌, ◌+◌, ◌++◌, ◌∷◌, ℕ, None, length, IfOk, IsTrue, IsFalse};
-ghost use Rattle.std.specs.List.{AllByRecursion};
-ghost use Rattle.qvt_metamodel.specs.Checks.{repeated_feature};
-ghost use Rattle.qvt_metas.specs.Extended.{extended, element_class, given_classes, given_features, AreGiven, HasRoomFor};
+ghost use Rattle.std.specs.Prelude.{◌≡◌, ◌<◌, ◌+◌, ℕ, None, IfOk, IsTrue, IsFalse};
+ghost use Rattle.qvt_metas.specs.Extended.{extended, given_classes, given_features, AreGiven, HasRoomFor};
 ghost use Rattle.qvt_meta_given.specs.Given.{has_room_for, are_live};
 
 use crate::live::are_live;

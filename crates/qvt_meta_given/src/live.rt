@@ -2,7 +2,7 @@
 
 ghost use Rattle.std.specs.Prelude.{◌≡◌};
 ghost use Rattle.std.specs.List.{list_all};
-ghost use Rattle.qvt_meta_given.specs.Given.{is_given_number, has_given_supers, is_live_kind, has_live_kind, has_live_kinds, are_live};
+ghost use Rattle.qvt_meta_given.specs.Given.{is_given_number, has_given_supers, is_live_kind, has_live_kinds, are_live};
 
 use qvt_base::numbers::ClassNo;
 use qvt_metas::given::{ClassData, FeatureData};

@@ -1,6 +1,6 @@
 //! Whether the numbers fit 32 bits when classes come after metamodels.
 
-ghost use Rattle.std.specs.Prelude.{◌≡◌, ◌+◌, ◌<◌, ◌^◌};
+ghost use Rattle.std.specs.Prelude.{◌≡◌, ◌+◌, ◌<◌};
 ghost use Rattle.qvt_metas.specs.Extended.{given_count};
 ghost use Rattle.qvt_meta_given.specs.Given.{fits, has_room_for};
 

@@ -1,7 +1,7 @@
 ghost use Rattle.std.specs.Prelude.{◌≡◌, ◌<◌, ◌^◌, ℕ, List, length, position, slice_index_or, [], IfOk};
 ghost use Rattle.std.specs.Str.{bytes_eq};
 ghost use Rattle.std.specs.Map.{lookup};
-ghost use Rattle.qvt_metamodel.specs.Named.{nowhere_enumeration, nowhere_metamodel};
+ghost use Rattle.qvt_metamodel.specs.Named.{nowhere_enumeration};
 ghost use Rattle.qvt_meta_names.specs.Enumerated.{AreFew, AreEachFew, IsTabled, AreTabled};
 
 use crate::adding::add_text;

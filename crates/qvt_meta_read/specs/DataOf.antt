@@ -1,6 +1,6 @@
 -- The data of a JSON value that has the form of a metamodel: what is missing has its default.
 use Rattle.std.specs.Prelude.{ℕ, List, Bool, true, false, Option, Some, None, unwrap_or, option_map, min, codes}
-use Rattle.serde_json.specs.Data.{Data, Items}
+use Rattle.serde_json.specs.Data.{Data}
 use Rattle.serde_json.specs.Find.{get}
 use Rattle.qvt_json.specs.Json.{text_at, text_or, as_count, count_under, flag_at, items_or}
 pub use Rattle.qvt_json.specs.Json.{map_items, text_of}

@@ -1,6 +1,6 @@
 //! The data of a JSON value that has the form of a metamodel.
 
-ghost use Rattle.std.specs.Prelude.{◌≡◌, codes, IfOk, option_map, min};
+ghost use Rattle.std.specs.Prelude.{◌≡◌, codes, IfOk, min};
 ghost use Rattle.serde_json.specs.Find.{get};
 ghost use Rattle.serde_json.specs.View.{view, items_view};
 ghost use Rattle.qvt_json.specs.Json.{text_at, items_or};

@@ -10,13 +10,9 @@ use Rattle.std.proofs.lemmas.Nat.{div-add-mod'}
 use Rattle.std.proofs.lemmas.Nat.Bits.{bit_at-lt, bit_at_or, bit_at-pow_same, bit_at-pow_other}
 use Rattle.qvt_metamodel.specs.declared.row.Row.{Row}
 use Rattle.qvt_metamodel.specs.Kept.{word_of, is_bit, is_marked}
-use Rattle.qvt_meta_tables.specs.Tables.{mark_of}
+use Rattle.qvt_meta_tables.specs.Tables.{joined_word, mark_of}
 use Rattle.qvt_metamodel.proofs.Bools.{ap2, not_true}
 use Rattle.qvt_metamodel.proofs.Rows.{no_bit}
-
--- the word with this number in a row with the marks of both and of a class
-abbrev pub joined_word : Row → ℕ → Row → ℕ → ℕ
-joined_word row c other n = bit_or (bit_or (word_of row n) (mark_of c n)) (word_of other n)
 
 one_of : (x y : ℕ) → x < 2 → y < 2 → (max x y == 1) ≡ ((x == 1) || (y == 1))
 one_of zero zero l k = refl

@@ -1,7 +1,6 @@
 //! An order of classes in which each comes after its superclasses.
 
 ghost use Rattle.std.specs.Prelude.{replicate, ◌≡◌, ◌≤◌, ◌<◌, ◌+◌, ◌++◌, ◌∷◌, [], ℕ, map, length, IfOk, OnOk, IsTrue, slice_index, false};
-ghost use Rattle.qvt_metamodel.specs.Metamodels.{class_at};
 ghost use Rattle.qvt_meta_tables.specs.Search.{flag, work, stands_in, place_of, AreLive, IsAcyclic, IsSearch};
 ghost use Rattle.qvt_meta_tables.specs.Tables.{of_classes, IsOrder};
 ghost use Rattle.qvt_meta_tables.specs.declared.visit.Visit.TheVariants.{Enter, Leave};

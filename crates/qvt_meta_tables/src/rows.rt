@@ -1,10 +1,10 @@
 //! Which classes are above each class.
 
-ghost use Rattle.std.specs.Prelude.{replicate, nat_lt, IsTrue, ◌≡◌, ◌<◌, ◌≤◌, ◌+◌, ◌^◌, ℕ, ◌||◌, ◌==◌, length, min, IfOk, slice_index_or};
+ghost use Rattle.std.specs.Prelude.{replicate, nat_lt, IsTrue, ◌≡◌, ◌<◌, ◌≤◌, ◌+◌, ◌/◌, ℕ, ◌||◌, ◌==◌, length, min, IfOk, slice_index_or};
 ghost use Rattle.std.specs.List.{list_any, list_all};
 ghost use Rattle.qvt_metamodel.specs.Descends.{reaches};
 ghost use Rattle.qvt_metamodel.specs.Kept.{no_row, is_marked};
-ghost use Rattle.qvt_meta_tables.specs.Tables.{of_classes, IsOrder, EndsWithin, mark_of};
+ghost use Rattle.qvt_meta_tables.specs.Tables.{of_classes, IsOrder, EndsWithin, joined_word, mark_of};
 
 use crate::order::Order;
 use crate::tables::{put, supers_at};
@@ -48,6 +48,28 @@ pub fn mark_of(class: u32, number: u32) -> u64
     }
 }
 
+/// The words from the first one on that a row with the marks of both and one for this class has, as many as can be taken over: where
+/// the one row has no marks, those of the other before the word of the class.
+fn words_over(
+    alloc: Global,
+    row: &Row,
+    class: u32,
+    other: &Row,
+    first: u32,
+    room: usize,
+) -> Result<Seq<u64>, ListFault>
+    requires first { first ≤ class / 64 }
+    ensures few { IfOk result (λ ws. first + length ws ≤ class / 64) }
+    ensures words { IfOk result (λ ws. (i : ℕ) → i < length ws → slice_index_or ws i 0 ≡ joined_word row.now class other.now (first + i)) }
+{
+    let mut words = Seq::with_room(alloc, room)?;
+    if row.words.is_empty() && other.skipped == first {
+        let count = other.words.len().min((class / 64 - first) as usize);
+        words.extend(&other.words.as_slice()[..count])?;
+    }
+    Ok(words)
+}
+
 /// A row with the marks of both and one for this class.
 fn with_row(alloc: Global, bound: u32, row: &Row, class: u32, other: &Row) -> Result<Row, ListFault>
     requires class { class < bound }
@@ -60,8 +82,10 @@ fn with_row(alloc: Global, bound: u32, row: &Row, class: u32, other: &Row) -> Re
     let end = (class / 64 + 1)
         .max(end_of(row, bound))
         .max(end_of(other, bound));
-    let mut words = Seq::with_room(alloc, end.saturating_sub(first) as usize)?;
-    for number in first..end {
+    let room = end.saturating_sub(first) as usize;
+    let mut words = words_over(alloc, row, class, other, first, room)?;
+    let begin = first + words.len() as u32;
+    for number in begin..end {
         words.push(word_of(row, number) | mark_of(class, number) | word_of(other, number))?;
     }
     Ok(Row {

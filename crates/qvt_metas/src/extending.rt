@@ -2,7 +2,6 @@
 
 ghost use Rattle.std.specs.Prelude.{◌≡◌, ◌+◌, ◌<◌, ◌^◌, ◌∷◌, ◌++◌, [], None, length, map, IfOk, OnOk, IsTrue};
 ghost use Rattle.std.specs.List.{list_all};
-ghost use Rattle.std.specs.Str.{is_utf8};
 ghost use Rattle.qvt_metamodel.specs.Extended.{unnamed, element_class, given_class, given_classes, given_feature, given_features, given_count, has_text, has_texts};
 
 use qvt_base::copied::Copied;

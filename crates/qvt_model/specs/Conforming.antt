@@ -1,6 +1,6 @@
 -- What conforming data are, in the terms of a store (EMOF 12.4 and 12.5).
-use Rattle.std.specs.Prelude.{◌≡◌, ℕ, ◌<◌, List, map, length, IsTrue, IsFalse}
-use Rattle.qvt_metas.specs.Metamodels.{Metamodels, class_at, shape_of, is_containment}
+use Rattle.std.specs.Prelude.{ℕ, ◌<◌, List, length, IsTrue, IsFalse}
+use Rattle.qvt_metas.specs.Metamodels.{Metamodels, class_at, shape_of}
 use Rattle.qvt_store.specs.Slots.{Slots, OppositesAgree, OneContainer, Inside}
 use Rattle.qvt_store.specs.Repeats.{repeats}
 use Rattle.qvt_store.specs.Assign.{exceeds_bound}

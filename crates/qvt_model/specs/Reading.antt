@@ -1,13 +1,12 @@
 -- The model of a metamodel that a file is, or the first check that fails. Each check goes over all objects in order, over the
 -- slots of an object in byte order of their names, and over the items of a slot, before the next check begins.
-use Rattle.std.specs.Prelude.{ℕ, List, [], ◌∷◌, ◌++◌, length, Bool, true, false, not, nat_lt, is_some, position, slice_index_or, Option, Some, None, option_map, option_and_then, Result, Ok, Err, if◌then◌else◌, codes, ⊤}
+use Rattle.std.specs.Prelude.{ℕ, List, [], ◌∷◌, length, Bool, false, not, nat_lt, is_some, position, slice_index_or, Option, Some, None, option_map, option_and_then, Result, Ok, if◌then◌else◌, codes, ⊤}
 use Rattle.std.specs.List.{list_any}
 use Rattle.std.specs.Str.{bytes_eq}
 use Rattle.serde_json.specs.Data.{Data, Items, Members, no_members, member}
 use Rattle.serde_json.specs.Find.{as_null, as_bool, as_str, as_number, as_i64, as_array}
 use Rattle.qvt_base.specs.declared.numbers.ClassNo.{ClassNo}
 use Rattle.qvt_base.specs.declared.numbers.FeatureNo.{FeatureNo}
-use Rattle.qvt_value.specs.declared.value.LiteralRef.{LiteralRef}
 use Rattle.qvt_metamodel.specs.declared.info.TypeKind.{TypeKind}
 use Rattle.qvt_metamodel.specs.declared.info.TypeKind.TheVariants.{Bool as BoolKind, Int as IntKind, Str as StrKind, Enum as EnumKind, Class as ClassKind}
 use Rattle.qvt_metas.specs.Metamodels.{Metamodels, feature_at, shape_of, is_single}

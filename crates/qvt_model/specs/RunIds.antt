@@ -1,6 +1,5 @@
 -- The id that an object has in a run, in written models, in the trace and where a lower bound is told.
 use Rattle.std.specs.Prelude.{◌≡◌, ℕ, ◌<◌, suc, List, [], Option, Some, None, length, slice_index_or, if◌then◌else◌, IsTrue}
-use Rattle.qvt_base.specs.declared.numbers.Oid.{Oid}
 use Rattle.qvt_store.specs.Contents.{Contents, extent_at, extent_of, is_live, is_writable, members_of}
 use Rattle.qvt_store.specs.Stay.{StaysIn}
 use Rattle.qvt_model.specs.Extents.{own_id, numbers, place_within, data_of}

@@ -1,4 +1,3 @@
-ghost use Rattle.std.specs.Prelude.{◌≡◌};
 ghost use Rattle.qvt_model.specs.Forms.{object_form, model_form};
 
 use qvt_base::list_fault::ListFault;

@@ -1,6 +1,6 @@
 //! A model loaded: its objects are added, their slots are set, and their ids are told.
 
-ghost use Rattle.std.specs.Prelude.{◌≡◌, ℕ, ◌+◌, ◌<◌, length, Option, Some, None, if◌then◌else◌, IfErr, OnOk};
+ghost use Rattle.std.specs.Prelude.{◌≡◌, ℕ, ◌<◌, length, if◌then◌else◌, IfErr, OnOk};
 ghost use Rattle.qvt_store.specs.Contents.{with_new, with_slot};
 ghost use Rattle.qvt_store.specs.Place.{IsPlaceable};
 ghost use Rattle.qvt_store.specs.Sound.{IsClassFor, Sound};

@@ -1,9 +1,9 @@
-ghost use Rattle.std.specs.Prelude.{◌≡◌, ◌<◌, ◌^◌, length, IfOk};
+ghost use Rattle.std.specs.Prelude.{◌<◌, ◌^◌, length, IfOk};
 ghost use Rattle.std.specs.List.{AllByRecursion};
 ghost use Rattle.serde_json.specs.View.{view, members_view};
 ghost use Rattle.qvt_json.specs.Steps.{GivesStated};
 ghost use Rattle.qvt_model.specs.Reading.{feature_of, features_known, slot_read, slots_of};
-ghost use Rattle.qvt_model.specs.WellFormed.{IsPlainDatum, IsPlainSlot};
+ghost use Rattle.qvt_model.specs.WellFormed.{IsPlainSlot};
 
 use crate::data::{ModelFault, SlotData, SlotList};
 use crate::items::items_read;

@@ -1,4 +1,4 @@
-ghost use Rattle.std.specs.Prelude.{◌≡◌, [], None, eqb, suc, length, map, string_bytes, option_map, IsTrue, IfOk, IfErr, OnOk};
+ghost use Rattle.std.specs.Prelude.{◌≡◌, [], None, eqb, suc, map, string_bytes, option_map, IsTrue, IfOk, IfErr, OnOk};
 ghost use Rattle.std.specs.List.{filter_map, AllByRecursion};
 ghost use Rattle.qvt_repeats.specs.Repeats.{repeated_by};
 ghost use Rattle.serde_json.specs.Data.{string, object, no_members, put};

@@ -1,6 +1,5 @@
 -- What the functions of the parser give.
-use Rattle.std.specs.Prelude.{◌≡◌, List, [], ◌∷◌, Bool, true, false, Result, Ok, Err, drop}
-use Rattle.qvt_base.specs.declared.numbers.Place.{Place}
+use Rattle.std.specs.Prelude.{◌≡◌, List, [], Result, Ok, Err, drop}
 use Rattle.qvt_grammar.specs.Reader.{At, Answer}
 use Rattle.qvt_language.specs.Tokens.{Tok, toks_of}
 use Rattle.qvt_parser_grammar.specs.declared.cursor.ParseError.{ParseError}

@@ -1,5 +1,5 @@
 ghost use Rattle.std.specs.Prelude.{◌≡◌, ◌<◌, ◌≤◌, ◌∷◌, length, map, OnOk};
-ghost use Rattle.qvt_grammar.specs.Reader.{starts, made_at, then_at, many_at, maybe_at};
+ghost use Rattle.qvt_grammar.specs.Reader.{starts, made_at, then_at, maybe_at};
 ghost use Rattle.qvt_tree_types.specs.View.{type_view, optional_type};
 ghost use Rattle.qvt_language.specs.Tokens.{of, is, tok_of};
 ghost use Rattle.qvt_language.specs.Readers.{the_at};

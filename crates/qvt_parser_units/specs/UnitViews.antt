@@ -1,5 +1,5 @@
 -- What clauses see of the parts of units.
-use Rattle.std.specs.Prelude.{List, map, Option}
+use Rattle.std.specs.Prelude.{List, map}
 use Rattle.qvt_tree_types.specs.Tree.{StmtTerm}
 use Rattle.qvt_tree_types.specs.View.{expr_view}
 use Rattle.qvt_tree_types.specs.Module.{TypedName, UnitTerm, param_view, field_view, unit_view}

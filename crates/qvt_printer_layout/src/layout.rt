@@ -1,4 +1,4 @@
-ghost use Rattle.std.specs.Prelude.{◌≡◌, ◌++◌, ◌∷◌, ◌<◌, OnOk, IfOk, flat_map, fold, replicate, []};
+ghost use Rattle.std.specs.Prelude.{◌≡◌, ◌++◌, ◌<◌, OnOk, IfOk, flat_map, replicate, []};
 ghost use Rattle.std.specs.Str.{chars};
 ghost use Rattle.qvt_language.specs.declared.class.Class.TheVariants as class;
 ghost use Rattle.qvt_printer_layout.specs.Layout as layout;

@@ -1,6 +1,6 @@
 //! Units, and a whole program.
 
-ghost use Rattle.std.specs.Prelude.{◌≡◌, ◌++◌, None, map, IfOk, OnOk};
+ghost use Rattle.std.specs.Prelude.{◌≡◌, ◌++◌, None, IfOk, OnOk};
 ghost use Rattle.qvt_types_nodes.specs.Module.{TypedMappingOf, typed_condition_view, typed_mapping_view, typed_unit_view};
 ghost use Rattle.qvt_meaning.specs.Numbered as numbered;
 ghost use Rattle.qvt_types_program.specs.Program.{program_view};

@@ -1,10 +1,8 @@
 //! The choice of a unit for objects of a class. What typing has found for the units of a name tells it in constant time.
 
 ghost use Rattle.std.specs.Prelude.{◌≡◌, [], ◌∷◌, IfOk};
-ghost use Rattle.std.specs.Str.{bytes_eq};
 ghost use Rattle.qvt_types_program.specs.Program.{program_view};
 ghost use Rattle.qvt_types_units.specs.Choice as choice;
-ghost use Rattle.qvt_types_units.specs.Numbers.{unit_at};
 ghost use Rattle.qvt_program_units.specs.Chosen as chosen;
 
 use crate::numbers::{no_unit, signature_of};

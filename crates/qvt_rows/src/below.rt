@@ -1,7 +1,7 @@
 //! Which classes are below each class.
 
-ghost use Rattle.std.specs.Prelude.{◌≡◌, ◌<◌, ◌+◌, ℕ, ◌||◌, ◌&&◌, ◌==◌, nat_lt, length, IfOk, IsTrue, OnOk, slice_index_or, slice_set};
-ghost use Rattle.std.specs.List.{list_any, list_all};
+ghost use Rattle.std.specs.Prelude.{◌≡◌, ◌<◌, ◌+◌, ℕ, ◌||◌, ◌==◌, nat_lt, length, IfOk, IsTrue, OnOk, slice_index_or, slice_set};
+ghost use Rattle.std.specs.List.{list_all};
 ghost use Rattle.qvt_metamodel.specs.Metamodels.{class_at};
 ghost use Rattle.qvt_metamodel.specs.Descends.{reaches};
 ghost use Rattle.qvt_metamodel.specs.Kept.{no_row, is_marked};

@@ -1,6 +1,6 @@
 -- The iterators, over what their bodies do (OCL 2.4, 7.6 and 11.9). They take the items of their source in order, and all but `exists`
 -- and `forAll` end at the first body that is invalid, or null where a Boolean or a sort key is wanted.
-use Rattle.std.specs.Prelude.{ℕ, zero, suc, ◌+◌, ◌==◌, Bool, true, false, not, ◌&&◌, ◌||◌, if◌then◌else◌, List, [], ◌∷◌, ◌++◌, map, Option, Some, None}
+use Rattle.std.specs.Prelude.{ℕ, zero, suc, ◌+◌, ◌==◌, Bool, true, false, not, ◌||◌, if◌then◌else◌, List, [], ◌∷◌, ◌++◌, map, Option, Some, None}
 use Rattle.std.specs.List.{list_all}
 use Rattle.std.specs.declared.cmp.Ordering.{Ordering}
 use Rattle.qvt_base.specs.declared.numbers.Place.{Place}

@@ -3,7 +3,6 @@
 use Rattle.std.specs.Prelude.{ℕ, Bool, true, false, List, Option, Some, None, Result, Ok, Err}
 use Rattle.qvt_base.specs.declared.numbers.Oid.{Oid}
 use Rattle.qvt_base.specs.declared.numbers.Place.{Place}
-use Rattle.qvt_value.specs.declared.value.Value.{Value}
 use Rattle.qvt_slots.specs.Contents.{Contents}
 use Rattle.qvt_run_data.specs.declared.exit.End.{End}
 use Rattle.qvt_run_data.specs.declared.exit.End.TheVariants.{Fault}

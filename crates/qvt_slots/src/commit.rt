@@ -1,10 +1,10 @@
 //! A change carried out in the cells. It takes no memory.
 
-ghost use Rattle.std.specs.Prelude.{◌≡◌, ◌<◌, ◌++◌, ◌∷◌, [], length, IsTrue, All, OnOk, OnErr};
-ghost use Rattle.qvt_metas.specs.Metamodels.{has_feature, is_containment};
-ghost use Rattle.qvt_slots.specs.Slots.{has, is_object};
+ghost use Rattle.std.specs.Prelude.{◌<◌, ◌∷◌, [], length, IsTrue, All};
+ghost use Rattle.qvt_metas.specs.Metamodels.{is_containment};
+ghost use Rattle.qvt_slots.specs.Slots.{has};
 ghost use Rattle.qvt_slots.specs.Change.{among_objects};
-ghost use Rattle.qvt_slots.specs.Cells.{HaveSlots, IsPut, instance_in, instances};
+ghost use Rattle.qvt_slots.specs.Cells.{HaveSlots};
 ghost use Rattle.qvt_slots.specs.Writes.{IsWrite, AreWritten, IsHeld, AllLive, AreHeld, AreHeldBy, AreHeldHere, IsSettled};
 
 use crate::cell::{Cell, Holder};

@@ -1,6 +1,6 @@
 //! The walk along containers.
 
-ghost use Rattle.std.specs.Prelude.{◌≡◌, ◌<◌, ◌↔◌, length, IsTrue};
+ghost use Rattle.std.specs.Prelude.{◌<◌, ◌↔◌, length, IsTrue};
 ghost use Rattle.qvt_slots.specs.Contents.{slot_in};
 ghost use Rattle.qvt_slots.specs.Cells.{AreWhole, instances};
 ghost use Rattle.qvt_slots.specs.Walk.{SomeOver};

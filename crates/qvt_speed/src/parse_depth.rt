@@ -2,7 +2,7 @@
 //! walk down such a text needs less than the 8 MiB that a machine's stack has. With one item more each
 //! is too deep.
 
-ghost use Rattle.std.specs.Prelude.{◌+◌, ◌<◌, ◌^◌, length};
+ghost use Rattle.std.specs.Prelude.{◌+◌, ◌<◌};
 
 use qvt_base::list_fault::ListFault;
 use qvt_base::lists::Bytes;

@@ -1,14 +1,14 @@
 -- What is known before a change is carried out.
 use Rattle.std.specs.Prelude.{◌≡◌, ℕ, Bool, not, List, ◌++◌, length, IsTrue, IsFalse}
-use Rattle.std.specs.List.{list_all, list_any}
+use Rattle.std.specs.List.{list_any}
 use Rattle.qvt_base.specs.declared.numbers.Oid.{Oid}
 use Rattle.qvt_value.specs.declared.value.Value.{Value}
 use Rattle.qvt_metamodel.specs.Metamodels.{shape_of}
 use Rattle.qvt_slots.specs.declared.commit.Write.{Write}
 use Rattle.qvt_slots.specs.declared.draft.Draft.{Draft}
 use Rattle.qvt_slots.specs.Change.{Change, is_linked, slot_after, slot_elsewhere}
-use Rattle.qvt_slots.specs.Contents.{Contents, is_slot, is_writable, slot_of}
-use Rattle.qvt_slots.specs.Types.{is_of_type, AreTyped, IsAssignable}
+use Rattle.qvt_slots.specs.Contents.{Contents, is_writable, slot_of}
+use Rattle.qvt_slots.specs.Types.{AreTyped, IsAssignable}
 use Rattle.qvt_slots.specs.Slots.{Inside}
 use Rattle.qvt_metamodel.specs.WellFormed.{IsWellFormed}
 use Rattle.qvt_value.specs.Kept.{is_same}

@@ -1,4 +1,4 @@
-ghost use Rattle.std.specs.Prelude.{◌≡◌, ◌<◌, ◌≤◌, [], length, IsTrue, IfOk, IfErr, OnOk, OnErr, IfSome, ℕ};
+ghost use Rattle.std.specs.Prelude.{◌≡◌, ◌<◌, [], length, IsTrue, IfOk, IfErr, OnOk, OnErr, IfSome, ℕ};
 ghost use Rattle.qvt_slots.specs.Slots.{Contains, has};
 ghost use Rattle.qvt_slots.specs.Cells.{holder_in};
 ghost use Rattle.qvt_metamodel.specs.Metamodels.{has_feature, is_containment};

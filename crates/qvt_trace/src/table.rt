@@ -11,7 +11,7 @@ pub(crate) struct Table<K: Hash + Eq> {
 }
 
 impl<K: Hash + Eq + Copy + Drop> Table<K> {
-    ghost use Rattle.std.specs.Prelude.{◌≡◌, [], ◌∷◌, ◌++◌, OnOk, if◌then◌else◌, false};
+    ghost use Rattle.std.specs.Prelude.{◌≡◌, [], ◌∷◌, ◌++◌, OnOk, if◌then◌else◌};
     ghost use Rattle.qvt_trace.specs.Tables.{kept, IsReady};
 
     /// No numbers. It takes no memory.

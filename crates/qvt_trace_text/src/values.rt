@@ -1,7 +1,7 @@
 //! Objects and values in a trace.
 
 ghost use Rattle.std.specs.Prelude.{◌≡◌, IfOk, map};
-ghost use Rattle.serde_json.specs.View.{items_of, items_view, view};
+ghost use Rattle.serde_json.specs.View.{items_view, view};
 ghost use Rattle.qvt_meaning_report.specs.TraceText as report;
 ghost use Rattle.qvt_trace_text.specs.Parts.{coll_data, literal_data};
 

@@ -1,5 +1,4 @@
 ghost use Rattle.std.specs.Prelude.{◌≡◌, ◌↔◌, IsTrue, map};
-ghost use Rattle.qvt_tree_types.specs.View.{type_view, block_view};
 ghost use Rattle.qvt_tree_types.specs.Module as view;
 ghost use Rattle.qvt_tree.specs.ModuleShape.{shape};
 ghost use Rattle.qvt_tree.specs.SameModule as same;

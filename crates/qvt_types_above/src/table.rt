@@ -1,7 +1,6 @@
 //! What is told of the units of a name at each class and above it, once for each class by its superclasses.
 
 ghost use Rattle.std.specs.Prelude.{◌≡◌, IsTrue, IfOk, OnOk};
-ghost use Rattle.qvt_metas.specs.Metamodels.{class_at};
 ghost use Rattle.qvt_types_above.specs.Own as own_words;
 ghost use Rattle.qvt_types_above.specs.Table as table_words;
 ghost use Rattle.qvt_types_above.specs.Table.{AreAlike, IsShort};

@@ -1,6 +1,6 @@
 //! Units.
 
-ghost use Rattle.std.specs.Prelude.{◌≡◌, map};
+ghost use Rattle.std.specs.Prelude.{map};
 ghost use Rattle.qvt_tree_types.specs.Module.{class_view, condition_view, helper_view, mapping_view, unit_view};
 ghost use Rattle.qvt_tree_types.specs.View.{block_view};
 ghost use Rattle.qvt_types_context.specs.Seen.{heads_seen, seen};

@@ -1,6 +1,6 @@
 //! Sets of classes as rows of bits.
 
-ghost use Rattle.std.specs.Prelude.{◌≡◌, true, IfOk};
+ghost use Rattle.std.specs.Prelude.{true, IfOk};
 ghost use Rattle.qvt_metas.specs.Metamodels.{class_at};
 ghost use Rattle.qvt_metas.specs.Descends.{descends};
 ghost use Rattle.qvt_types_choices.specs.Sets.{IsSetOf, AreSets};

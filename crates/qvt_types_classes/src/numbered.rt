@@ -1,6 +1,6 @@
 //! Intermediate classes by number, and the properties of each with those that it inherits.
 
-ghost use Rattle.std.specs.Prelude.{◌≡◌, ◌+◌, ◌<◌, ◌^◌, [], length, map, slice_index_or, IfOk, IfSome, OnOk};
+ghost use Rattle.std.specs.Prelude.{◌≡◌, ◌+◌, ◌<◌, ◌^◌, [], length, map, IfOk, IfSome, OnOk};
 ghost use Rattle.qvt_metamodel.specs.Lists.{all_lists};
 ghost use Rattle.qvt_metas.specs.Search.{AreLive, IsAcyclic};
 ghost use Rattle.qvt_types_classes.specs.Classes.{HaveRanks};

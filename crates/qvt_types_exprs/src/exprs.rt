@@ -1,6 +1,6 @@
 //! Expressions.
 
-ghost use Rattle.std.specs.Prelude.{◌≡◌, map};
+ghost use Rattle.std.specs.Prelude.{map};
 ghost use Rattle.qvt_tree_types.specs.Tree.{IntExpr, StrExpr, BoolExpr, NullExpr, SelfExpr, ResultExpr, PathExpr};
 ghost use Rattle.qvt_types_laws.specs.Join.{join_expr};
 ghost use Rattle.qvt_types_leaves.specs.Joins.{Joins};

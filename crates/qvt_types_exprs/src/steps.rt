@@ -1,6 +1,6 @@
 //! Steps after an expression, and what stands in calls, chains and collections.
 
-ghost use Rattle.std.specs.Prelude.{◌≡◌, map};
+ghost use Rattle.std.specs.Prelude.{map};
 ghost use Rattle.std.specs.Option.{option_map};
 ghost use Rattle.qvt_types_exprs.specs.Made.{held, unboxed, MakesNode, Noted};
 ghost use Rattle.qvt_types_nodes.specs.Tree.{TypedLinkOf, TypedRangeTo, TypedItemOf, TypedMapOf, TypedResolveOf, TypedFilterOf, TypedHeadOf, TypedAccumulatorOf, TypedDotStep, TypedArrowStep, TypedDotMapStep, TypedArrowMapStep, TypedDotResolveStep, TypedArrowResolveStep};

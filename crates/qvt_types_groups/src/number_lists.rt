@@ -1,6 +1,6 @@
 //! Lists of numbers by name, looked up by hash.
 
-ghost use Rattle.std.specs.Prelude.{◌≡◌, ◌++◌, ◌∷◌, [], ◌<◌, ℕ, List, length, position, if◌then◌else◌, slice_index_or, slice_set, IfOk, IfSome, OnOk};
+ghost use Rattle.std.specs.Prelude.{◌≡◌, ◌++◌, ◌∷◌, [], ◌<◌, ℕ, List, length, position, if◌then◌else◌, slice_index_or, slice_set, IfOk, OnOk};
 ghost use Rattle.std.specs.Str.{bytes_eq};
 ghost use Rattle.qvt_types_groups.specs.Lists.{NamedLists, numbers_under};
 

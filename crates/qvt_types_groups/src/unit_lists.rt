@@ -1,6 +1,6 @@
 //! The numbers of units by their names.
 
-ghost use Rattle.std.specs.Prelude.{◌≡◌, ◌++◌, ◌∷◌, [], ◌<◌, ◌^◌, ℕ, List, length, if◌then◌else◌, IfOk};
+ghost use Rattle.std.specs.Prelude.{◌≡◌, ◌++◌, ◌∷◌, [], ◌<◌, ℕ, List, if◌then◌else◌, IfOk};
 ghost use Rattle.qvt_types_units.specs.Numbers.{numbers_where};
 ghost use Rattle.qvt_types_groups.specs.Lists as under;
 

@@ -1,9 +1,8 @@
 //! The units of a transformation by their names, looked up by hash.
 
-ghost use Rattle.std.specs.Prelude.{◌≡◌, ◌<◌, ◌^◌, position, length, IfOk};
+ghost use Rattle.std.specs.Prelude.{◌≡◌, ◌<◌, position, length, IfOk};
 ghost use Rattle.qvt_types_units.specs.Numbers as numbers;
 ghost use Rattle.qvt_types_groups.specs.Keys.{is_named};
-ghost use Rattle.qvt_types_groups.specs.Lists.{first_of};
 ghost use Rattle.qvt_types_groups.specs.Indexed.{AreCalled};
 
 use crate::class_keys::{constructor_keys, named_keys};

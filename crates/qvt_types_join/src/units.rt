@@ -1,6 +1,6 @@
 //! Units, and the transformation.
 
-ghost use Rattle.std.specs.Prelude.{◌≡◌, map};
+ghost use Rattle.std.specs.Prelude.{map};
 ghost use Rattle.qvt_tree_types.specs.Module.{helper_view, condition_view, mapping_view, unit_view, module_view};
 ghost use Rattle.qvt_types_laws.specs.Join.{join_optional_expr};
 ghost use Rattle.qvt_types_laws.specs.JoinModule.{join_all, join_result, join_helper, join_mapping, join_unit, join_module};

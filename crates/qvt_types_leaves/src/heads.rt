@@ -1,6 +1,6 @@
 //! Classes, parameters, model types and what else of a unit stands before its body.
 
-ghost use Rattle.std.specs.Prelude.{◌≡◌, map};
+ghost use Rattle.std.specs.Prelude.{map};
 ghost use Rattle.qvt_tree_types.specs.Module.{field_view, param_view, class_view};
 ghost use Rattle.qvt_types_laws.specs.JoinModule.{join_all, join_member, join_class, join_result, join_model_type, join_model_param};
 ghost use Rattle.qvt_types_nodes.specs.Module.{typed_field_view, typed_param_view, typed_class_view};

@@ -1,6 +1,6 @@
 //! The units that the lists of mappings name.
 
-ghost use Rattle.std.specs.Prelude.{◌≡◌, ◌++◌, ◌∷◌, [], map, IfOk, OnOk};
+ghost use Rattle.std.specs.Prelude.{◌≡◌, ◌++◌, [], map, IfOk, OnOk};
 ghost use Rattle.std.specs.List.{flat_map};
 ghost use Rattle.qvt_tree_types.specs.Module.{mapping_view, unit_view};
 ghost use Rattle.qvt_tree_types.specs.declared.types.PathTree.{PathTree};

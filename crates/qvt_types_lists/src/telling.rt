@@ -1,7 +1,6 @@
 //! What is told of mappings by the lists in which they name others.
 
 ghost use Rattle.std.specs.Prelude.{◌≡◌, ◌++◌, ◌<◌, length, map, OnOk};
-ghost use Rattle.std.specs.List.{flat_map};
 ghost use Rattle.qvt_cycle.specs.Ready.{AreCyclesOf};
 ghost use Rattle.qvt_tree_types.specs.Module.{mapping_view, unit_view};
 ghost use Rattle.qvt_tree_types.specs.View.{block_view};

@@ -1,7 +1,7 @@
 //! Expressions and their steps.
 
 ghost use Rattle.std.specs.Option.{option_map};
-ghost use Rattle.std.specs.Prelude.{◌≡◌, map};
+ghost use Rattle.std.specs.Prelude.{map};
 ghost use Rattle.qvt_tree_types.specs.Tree.{CallExpr, CollExpr, ObjectExpr, NewExpr, PrefixExpr};
 ghost use Rattle.qvt_tree_types.specs.View.{expr_view, exprs_of, link_view, links_of, item_view, items_of, range_view, step_view, steps_of, head_view, accumulator_view, filter_view, map_view, resolve_view, optional_filter, optional_head, optional_accumulator, optional_range, block_view};
 ghost use Rattle.qvt_types_laws.specs.Join.{join_expr, join_exprs, join_link, join_links, join_item, join_items, join_range, join_step, join_steps, join_head, join_accumulator, join_filter, join_map, join_resolve, join_optional_expr};

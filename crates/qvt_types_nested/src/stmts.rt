@@ -1,7 +1,7 @@
 //! Statements.
 
 ghost use Rattle.std.specs.Option.{option_map};
-ghost use Rattle.std.specs.Prelude.{◌≡◌, map};
+ghost use Rattle.std.specs.Prelude.{map};
 ghost use Rattle.qvt_tree_types.specs.Tree.{VarStmt};
 ghost use Rattle.qvt_tree_types.specs.View.{expr_view, stmt_view, target_view, arm_view, arms_of, optional_type, optional_expr, block_view};
 ghost use Rattle.qvt_types_laws.specs.Join.{join_stmt, join_stmts, join_target, join_arm, join_arms, join_optional_expr};

@@ -1,6 +1,6 @@
 //! What is told of units that override others.
 
-ghost use Rattle.std.specs.Prelude.{◌≡◌, ◌++◌, ◌&&◌, Bool, true, false, ℕ, List, length, nat_lt, IfOk, OnOk};
+ghost use Rattle.std.specs.Prelude.{◌≡◌, ◌++◌, ◌&&◌, true, false, ℕ, List, length, nat_lt, OnOk};
 ghost use Rattle.std.specs.List.{list_any, list_all};
 ghost use Rattle.qvt_types_groups.specs.Numbers.{unit_at};
 ghost use Rattle.qvt_types_groups.specs.Overrides as overrides;

@@ -1,6 +1,6 @@
 //! What a program is asked by number: its model parameters and its mappings.
 
-ghost use Rattle.std.specs.Prelude.{◌≡◌, ◌++◌, [], ◌∷◌, ◌<◌, map, length, IfOk, OnOk, if◌then◌else◌};
+ghost use Rattle.std.specs.Prelude.{◌≡◌, ◌++◌, [], ◌∷◌, ◌<◌, map, IfOk, OnOk, if◌then◌else◌};
 ghost use Rattle.qvt_types_groups.specs.Numbers as numbers;
 ghost use Rattle.qvt_types_program.specs.Mappings as mappings_of;
 ghost use Rattle.qvt_types_program.specs.Tables.{tables_of};

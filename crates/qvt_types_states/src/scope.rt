@@ -1,6 +1,6 @@
 //! What is in scope.
 
-ghost use Rattle.std.specs.Prelude.{◌≡◌, [], None, length, OnOk};
+ghost use Rattle.std.specs.Prelude.{◌≡◌, [], length, OnOk};
 ghost use Rattle.std.specs.Option.{option_copied};
 ghost use Rattle.qvt_types_states.specs.Scopes.{found, is_known, with_named, with_source};
 ghost use Rattle.std.specs.Prelude.{take, false};

@@ -1,8 +1,6 @@
 //! The steps of which judging a node is made.
 
-ghost use Rattle.std.specs.Prelude.{◌≡◌, length};
 ghost use Rattle.qvt_types_states.specs.Judge as judge;
-ghost use Rattle.qvt_types_states.specs.Scopes.{ScopeTerm};
 ghost use Rattle.qvt_types_states.specs.Does.{GivesAndLeaves};
 
 use crate::scope::Known;

@@ -9,7 +9,7 @@ use Rattle.qvt_types_data.specs.declared.ty.Ty.{Ty}
 use Rattle.qvt_types_data.specs.declared.ty.Ty.TheVariants as ty
 use Rattle.qvt_types_data.specs.declared.refusal.RefusalKind.TheVariants as refusal
 use Rattle.qvt_types_data.specs.declared.ruling.Ruling.{Ruling}
-use Rattle.qvt_types_data.specs.declared.ruling.Ruling.TheVariants.{Holds, Fails, Silent}
+use Rattle.qvt_types_data.specs.declared.ruling.Ruling.TheVariants.{Fails, Silent}
 use Rattle.qvt_types_data.specs.Notes.{ruled_wrapped}
 use Rattle.qvt_types_words.specs.Rulings.{typed, typed_if}
 use Rattle.qvt_types_words.specs.Types.{conforms}

@@ -10,7 +10,7 @@ use Rattle.qvt_types_data.specs.declared.note.Reading.{Reading}
 use Rattle.qvt_types_data.specs.declared.refusal.RefusalKind.{RefusalKind}
 use Rattle.qvt_types_data.specs.declared.refusal.RefusalKind.TheVariants as refusal
 use Rattle.qvt_types_data.specs.declared.ruling.Ruling.{Ruling}
-use Rattle.qvt_types_data.specs.declared.ruling.Ruling.TheVariants.{Holds, Fails, Silent}
+use Rattle.qvt_types_data.specs.declared.ruling.Ruling.TheVariants.{Holds, Silent}
 use Rattle.qvt_types_words.specs.Types.{conforms, innermost}
 use Rattle.qvt_types_steps.specs.Calls.{source_of, is_single_type, collected}
 use Rattle.qvt_types_steps.specs.declared.classes.ClassPart.{ClassPart}

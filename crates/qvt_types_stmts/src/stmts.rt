@@ -1,6 +1,6 @@
 //! Statements.
 
-ghost use Rattle.std.specs.Prelude.{◌≡◌, map};
+ghost use Rattle.std.specs.Prelude.{map};
 ghost use Rattle.std.specs.Option.{option_map};
 ghost use Rattle.qvt_tree_types.specs.Tree.{BareTarget, ResultTarget};
 ghost use Rattle.qvt_types_laws.specs.Join.{join_target};

@@ -1,7 +1,6 @@
 //! The choice of a unit by the class of an object.
 
-ghost use Rattle.std.specs.Prelude.{◌≡◌, ◌&&◌, not, is_some, length, map, IfOk, OnOk};
-ghost use Rattle.std.specs.List.{list_any, list_all, range_with_len};
+ghost use Rattle.std.specs.Prelude.{◌≡◌, IfOk};
 ghost use Rattle.qvt_types_units.specs.Choice as choice;
 
 use crate::signature::{HeadClass, Signature};

@@ -1,7 +1,6 @@
 //! Units that override others.
 
 ghost use Rattle.std.specs.Prelude.{◌≡◌, ◌&&◌};
-ghost use Rattle.std.specs.List.{list_any};
 ghost use Rattle.qvt_types_units.specs.Overrides as overrides;
 
 use crate::numbers::{is_helper, is_mapping};

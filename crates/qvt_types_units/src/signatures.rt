@@ -1,6 +1,6 @@
 //! The signatures of units.
 
-ghost use Rattle.std.specs.Prelude.{◌≡◌, ◌+◌, ◌^◌, ◌<◌, length, map, IfOk};
+ghost use Rattle.std.specs.Prelude.{◌≡◌, ◌<◌, map, IfOk};
 ghost use Rattle.qvt_tree_types.specs.Module.{class_view, helper_view, mapping_view, param_view, unit_view};
 ghost use Rattle.qvt_tree_types.specs.View.{optional_type};
 ghost use Rattle.qvt_types_units.specs.Signatures as signatures;

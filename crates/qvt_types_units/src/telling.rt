@@ -1,7 +1,6 @@
 //! What is told of the heads of units one by one.
 
-ghost use Rattle.std.specs.Prelude.{◌≡◌, ◌++◌, is_none, length, map, IfOk, OnOk};
-ghost use Rattle.std.specs.Str.{bytes_eq};
+ghost use Rattle.std.specs.Prelude.{◌≡◌, ◌++◌, is_none, length, map, OnOk};
 ghost use Rattle.qvt_tree_types.specs.Module.{helper_view, mapping_view, param_view, unit_view};
 ghost use Rattle.qvt_tree_types.specs.View.{optional_type};
 ghost use Rattle.qvt_types_classes.specs.Written.{told_of};

@@ -19,7 +19,6 @@ use Rattle.qvt_types_units.specs.declared.choice.FoundUnit.TheVariants.{NoUnit, 
 use Rattle.qvt_types_units.specs.Numbers.{unit_at, group, free_unit}
 use Rattle.qvt_types_units.specs.declared.signature.UnitSort.{UnitSort}
 use Rattle.qvt_types_units.specs.declared.signature.UnitSort.TheVariants as sort
-use Rattle.qvt_types_units.specs.declared.signature.Signature.{Signature}
 use Rattle.qvt_typing.specs.declared.parts.Called.{Called}
 use Rattle.qvt_typing.specs.declared.parts.Effect.{Effect}
 use Rattle.qvt_typing.specs.declared.parts.Effect.TheVariants.{PlainOne, PureOne, ImpureOne}

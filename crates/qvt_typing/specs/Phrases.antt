@@ -1,7 +1,6 @@
 -- Which rule each node has.
 use Rattle.std.specs.Option.{is_some}
 use Rattle.std.specs.Prelude.{ℕ, ◌&&◌, Bool, true, false, if◌then◌else◌, List, [], ◌∷◌, Option, Some, None}
-use Rattle.qvt_base.specs.declared.numbers.Place.{Place}
 use Rattle.qvt_tree_types.specs.declared.types.PathTree.{PathTree}
 use Rattle.qvt_tree_types.specs.declared.types.ObjectVar.{ObjectVar}
 use Rattle.qvt_tree_types.specs.declared.types.ObjectVar.TheVariants as variable

@@ -1,7 +1,7 @@
 //! Changes of slots, with all that follows for the other slots.
 
 ghost use Rattle.std.specs.Prelude.{◌≡◌, ◌≢◌, ◌++◌, ◌&&◌, ◌||◌, not, All, Ok, Err, IfOk, IfErr, OnOk, OnErr};
-ghost use Rattle.qvt_slots.specs.Change.{is_linked, objects_beyond};
+ghost use Rattle.qvt_slots.specs.Change.{is_linked};
 ghost use Rattle.qvt_slots.specs.Contents.{slot_of, with_slot};
 ghost use Rattle.qvt_metamodel.specs.Metamodels.{shape_of};
 ghost use Rattle.qvt_slots.specs.Assign.{assign, change_to, store_after};

@@ -1,12 +1,11 @@
 //! The slots other than the changed one that a change may touch, each with its new list.
 
-ghost use Rattle.std.specs.Prelude.{◌≡◌, ◌∷◌, [], IsTrue, IfOk, OnOk};
-ghost use Rattle.qvt_metamodel.specs.Metamodels.{is_containment, is_opposite};
-ghost use Rattle.qvt_slots.specs.Change.{among_objects, is_container};
-ghost use Rattle.qvt_slots.specs.Contents.{slot_of, is_slot};
+ghost use Rattle.std.specs.Prelude.{◌≡◌, ◌∷◌, [], IfOk, OnOk};
+ghost use Rattle.qvt_metamodel.specs.Metamodels.{is_containment};
+ghost use Rattle.qvt_slots.specs.Change.{is_container};
+ghost use Rattle.qvt_slots.specs.Contents.{is_slot};
 ghost use Rattle.qvt_store.specs.Draft.{drafted, RemovesHeld};
 ghost use Rattle.qvt_store.specs.Plan.{Plans, IsSlotOf, IsSlotOfSome, IsOwnerSlot, IsAround, IsAroundSome, IsHeldSlot, IsOppositeSlot, IsOpposed, IsRehoused, IsPlan};
-ghost use Rattle.qvt_slots.specs.Slots.{has};
 ghost use Rattle.std.specs.Prelude.{ℕ};
 
 use crate::store::Store;

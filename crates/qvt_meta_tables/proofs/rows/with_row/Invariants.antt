@@ -1,5 +1,5 @@
 use Rattle.std.proofs.Common.{◌≡◌, ℕ, ◌+◌, ◌<◌, length, slice_index_or}
-use Rattle.qvt_meta_tables.proofs.Words.{joined_word}
+use Rattle.qvt_meta_tables.specs.Tables.{joined_word}
 use Rattle.qvt_meta_tables.proofs.rows.with_row.Given as goal
 
 abbrev pub invariant-loop-number : goal.invariant-loop-number
