@@ -11,7 +11,8 @@ use Rattle.qvt_metamodel.specs.Kept.{word_of, is_bit, is_marked, no_row}
 use Rattle.qvt_rows.specs.Sets.{Overlap, IsSubset, IsLengthened, ArePut}
 use Rattle.qvt_metamodel.proofs.Bools.{ap2, clash}
 use Rattle.qvt_metamodel.proofs.Rows.{no_bit, no_mark}
-use Rattle.qvt_meta_tables.proofs.Words.{joined_word, joined_words, joined_marks}
+use Rattle.qvt_meta_tables.specs.Tables.{joined_word}
+use Rattle.qvt_meta_tables.proofs.Words.{joined_words, joined_marks}
 use Rattle.qvt_relation.proofs.Bools.{or_false}
 
 -- a row with these words from a place on

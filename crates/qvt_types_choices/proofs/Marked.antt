@@ -14,7 +14,8 @@ use Rattle.qvt_metas.specs.Kept.{no_row, word_of, is_bit, is_marked}
 use Rattle.qvt_metamodel.proofs.Bools.{and_no, not_true}
 use Rattle.qvt_metamodel.proofs.Rows.{no_bit, no_mark}
 use Rattle.qvt_metas.specs.Tables.{mark_of}
-use Rattle.qvt_meta_tables.proofs.Words.{joined_word, joined_marks}
+use Rattle.qvt_meta_tables.specs.Tables.{joined_word}
+use Rattle.qvt_meta_tables.proofs.Words.{joined_marks}
 use Rattle.qvt_types_choices.specs.Sets.{IsSetOf, word_count}
 use Rattle.qvt_counts.specs.Counts.{bits}
 
